@@ -1,0 +1,62 @@
+// What the reader says of a file that it does not take.
+ghost use mathlib.Core.Path.{_≡_};
+ghost use Rattle.sitefile.specs.Faults.{cause-number, layer-number};
+
+#[derive(Clone, Copy, Debug, PartialEq, Eq)]
+pub enum Cause {
+    // No byte where one is needed.
+    MissingByte,
+    // A number that is not in its shortest form, or too great.
+    MalformedNumber,
+    // The first byte is of no known kind.
+    UnknownKind,
+    // A number outside its range.
+    OutOfRange,
+    // A table of the customer's with too few entries.
+    SmallTable,
+    // Something follows the last record.
+    BytesLeft,
+}
+
+impl Cause {
+    pub fn number(self) -> u8
+        ensures { λ r. ⌜ r ≡ cause-number self ⌝ }
+    {
+        match self {
+            Cause::MissingByte => 21,
+            Cause::MalformedNumber => 22,
+            Cause::UnknownKind => 23,
+            Cause::OutOfRange => 24,
+            Cause::SmallTable => 26,
+            Cause::BytesLeft => 27,
+        }
+    }
+}
+
+// The layer of the reader that found the fault.
+#[derive(Clone, Copy, Debug, PartialEq, Eq)]
+pub enum Layer {
+    Number,
+    Record,
+    Site,
+}
+
+impl Layer {
+    pub fn number(self) -> u8
+        ensures { λ r. ⌜ r ≡ layer-number self ⌝ }
+    {
+        match self {
+            Layer::Number => 1,
+            Layer::Record => 2,
+            Layer::Site => 3,
+        }
+    }
+}
+
+#[derive(Clone, Copy, Debug, PartialEq, Eq)]
+pub struct Fault {
+    pub cause: Cause,
+    // Where in the file, counted from 0.
+    pub byte: usize,
+    pub layer: Layer,
+}

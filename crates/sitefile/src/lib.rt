@@ -1,0 +1,12 @@
+// Reads site files: bytes that the customer lends, from which the customer's tables are filled.
+pub mod fault;
+pub mod floor;
+pub mod numbers;
+pub mod reader;
+mod records;
+
+pub use fault::Cause;
+pub use fault::Fault;
+pub use fault::Layer;
+pub use floor::load;
+pub use reader::Reader;
