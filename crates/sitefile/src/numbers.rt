@@ -12,6 +12,15 @@ use crate::fault::Fault;
 use crate::fault::Layer;
 use crate::reader::Reader;
 
+// A byte from here on says that another follows.
+const CONTINUED: u8 = 0x80;
+
+// The greatest fifth byte: the highest four of 32 bits.
+const LAST_GROUP: u8 = 0x0f;
+
+// The groups that may follow a number's first.
+const MORE: u32 = 4;
+
 impl<'a> Reader<'a> {
     // A reader at the front of a file.
     pub fn new(file: &'a [u8]) -> Reader<'a>
@@ -28,13 +37,6 @@ impl<'a> Reader<'a> {
         ensures at { λ r. ⌜ r .at ≡ 1 ⌝ }
     {
         Reader { left: rest, at: 1 }
-    }
-
-    // Where in the file the reader stands.
-    pub fn position(&self) -> usize
-        ensures { λ r. ⌜ r ≡ now (self .entry) .at ⌝ }
-    {
-        self.at
     }
 
     fn byte(&mut self) -> Result<u8, Fault>
@@ -66,19 +68,19 @@ impl<'a> Reader<'a> {
         };
         let byte = self.byte()?;
         if more == 0 {
-            if byte > 0x0f {
+            if byte > LAST_GROUP {
                 return Err(malformed);
             }
             return Ok(byte as u32);
         }
-        if byte < 0x80 {
+        if byte < CONTINUED {
             return Ok(byte as u32);
         }
         let higher = self.groups(first, more - 1)?;
         if higher == 0 {
             return Err(malformed);
         }
-        Ok((byte - 0x80) as u32 + 0x80 * higher)
+        Ok((byte - CONTINUED) as u32 + 0x80 * higher)
     }
 
     // The number at the reader's position. A fault leaves the reader where it stands.
@@ -86,7 +88,7 @@ impl<'a> Reader<'a> {
         ensures { λ r. ⌜ ReadsNumber (now (self .entry)) (now (self .exit)) r ⌝ }
     {
         let mut walk = *self;
-        let n = walk.groups(self.at, 4)?;
+        let n = walk.groups(self.at, MORE)?;
         *self = walk;
         Ok(n)
     }

@@ -21,24 +21,28 @@ mod tests {
         check_eq(fault.layer.number(), layer)
     }
 
-    // The bytes hold a number, and the reader then stands behind it.
-    fn reads(bytes: &[u8], number: u32, length: usize) -> Result<(), Fail> {
+    // The bytes hold a number, and behind it the number 1.
+    fn reads(bytes: &[u8], number: u32) -> Result<(), Fail> {
         let mut reader = Reader::new(bytes);
-        match reader.number() {
-            Ok(n) => check_eq(n, number)?,
-            Err(_) => return Err(Fail::new("a number is refused")),
+        for expected in [number, 1] {
+            match reader.number() {
+                Ok(n) => check_eq(n, expected)?,
+                Err(_) => return Err(Fail::new("a number is refused")),
+            }
         }
-        check_eq(reader.position(), length)
+        Ok(())
     }
 
-    // The bytes hold no number, and the reader stays.
+    // The bytes hold no number, and the reader stays, so it says the same again.
     fn refuses(bytes: &[u8], cause: u8, byte: usize) -> Result<(), Fail> {
         let mut reader = Reader::new(bytes);
-        match reader.number() {
-            Ok(_) => return Err(Fail::new("no number is read")),
-            Err(fault) => is_fault(fault, cause, byte, 1)?,
+        for _again in 0..2 {
+            match reader.number() {
+                Ok(_) => return Err(Fail::new("no number is read")),
+                Err(fault) => is_fault(fault, cause, byte, 1)?,
+            }
         }
-        check_eq(reader.position(), 0)
+        Ok(())
     }
 
     // A load into nine entries is refused and leaves them as they were.
@@ -56,11 +60,11 @@ mod tests {
 
     #[test]
     fn numbers_in_their_shortest_form() -> Result<(), Fail> {
-        reads(&[0x00], 0, 1)?;
-        reads(&[0x7f, 0x80], 127, 1)?;
-        reads(&[0x80, 0x01], 128, 2)?;
-        reads(&[0xac, 0x02], 300, 2)?;
-        reads(&[0xff, 0xff, 0xff, 0xff, 0x0f], 4_294_967_295, 5)
+        reads(&[0x00, 1], 0)?;
+        reads(&[0x7f, 1], 127)?;
+        reads(&[0x80, 0x01, 1], 128)?;
+        reads(&[0xac, 0x02, 1], 300)?;
+        reads(&[0xff, 0xff, 0xff, 0xff, 0x0f, 1], 4_294_967_295)
     }
 
     #[test]

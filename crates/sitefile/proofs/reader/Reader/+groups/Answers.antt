@@ -5,10 +5,10 @@ use Rattle.std.proofs.shelf.Results.{err-from-errBy}
 use Rattle.sitefile.proofs.Forms.{ends-here, fault-after, zero-after, number-after, fits-with, great-group}
 use Rattle.sitefile.proofs.reader.Reader.+groups.Needs as need
 
-pub returns-then-byte-lt128 : need.returns-then-byte-lt128
-returns-then-byte-lt128 t c =
+pub returns-then-byte-lt-CONTINUED : need.returns-then-byte-lt-CONTINUED
+returns-then-byte-lt-CONTINUED t c =
     let byte = c .in-Continue-byte .ensures tt in
-    record { size = byte .size; read = ends-here (omega arith) (byte .read) (c .if-byte-lt128 .taken) }
+    record { size = byte .size; read = ends-here (omega arith) (byte .read) (c .if-byte-lt-CONTINUED .taken) }
 
 pub returns-in-Break-higher : need.returns-in-Break-higher
 returns-in-Break-higher t c =
@@ -17,7 +17,7 @@ returns-in-Break-higher t c =
     let p = err-from-errBy (c .from-residual-in-Break-higher .result) (c .from-residual-in-Break-higher .ensures .1) in
     record {
       size = told .size ∙ byte .size;
-      read = rw (p .1, p .2) (fault-after (omega arith) (byte .read) (byte .size) (c .if-byte-lt128 .left) (told .read));
+      read = rw (p .1, p .2) (fault-after (omega arith) (byte .read) (byte .size) (c .if-byte-lt-CONTINUED .left) (told .read));
     }
 
 pub returns-then-higher-eq0 : need.returns-then-higher-eq0
@@ -26,7 +26,7 @@ returns-then-higher-eq0 t c =
     let told = c .in-Continue-higher .ensures tt in
     record {
       size = told .size ∙ byte .size;
-      read = zero-after (omega arith) (byte .read) (c .if-byte-lt128 .left) (c .if-higher-eq0 .taken) (told .read);
+      read = zero-after (omega arith) (byte .read) (c .if-byte-lt-CONTINUED .left) (c .if-higher-eq0 .taken) (told .read);
     }
 
 pub mul-result : need.mul-result
@@ -45,10 +45,10 @@ returns t c =
     let told = c .in-Continue-higher .ensures tt in
     record {
       size = told .size ∙ byte .size;
-      read = number-after (omega arith) (byte .read) (c .if-byte-lt128 .left) (search needs) (c .if-higher-eq0 .left) (told .read);
+      read = number-after (omega arith) (byte .read) (c .if-byte-lt-CONTINUED .left) (search needs) (c .if-higher-eq0 .left) (told .read);
     }
 
-pub returns-then-byte-gt15 : need.returns-then-byte-gt15
-returns-then-byte-gt15 t c =
+pub returns-then-byte-gt-LAST-GROUP : need.returns-then-byte-gt-LAST-GROUP
+returns-then-byte-gt-LAST-GROUP t c =
     let byte = c .in-Continue-byte .ensures tt in
-    record { size = byte .size; read = great-group (c .if-more-eq0 .taken) (byte .read) (c .if-byte-gt15 .taken) }
+    record { size = byte .size; read = great-group (c .if-more-eq0 .taken) (byte .read) (omega arith) }

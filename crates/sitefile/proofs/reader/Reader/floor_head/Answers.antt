@@ -1,4 +1,6 @@
 use mathlib.Core.Path.{_∙_}
+use Prim.Native.Nat.{_*_}
+use native.Mathlib.Omega.{arith}
 use Rattle.std.proofs.shelf.Results.{err-from-errBy}
 use Rattle.std.proofs.shelf.Tests.{le-leb, lt-leb}
 use Rattle.sitefile.specs.Formats.{here, later}
@@ -22,7 +24,7 @@ pub returns-then-entries-rows : need.returns-then-entries-rows
 returns-then-entries-rows c =
     let rows = c .in-Continue-rows .ensures tt in
     let columns = c .in-Continue-columns .ensures tt in
-    record { size = columns .size ∙ rows .size; read = later _ _ (rows .read) (later _ _ (columns .read) (check-failed (lt-leb _ _ (c .if-entries-rows .taken)))) }
+    record { size = columns .size ∙ rows .size; read = later _ _ (rows .read) (later _ _ (columns .read) (check-failed (lt-leb (c .in-Continue-rows .rows * c .in-Continue-columns .columns) (c .args .entries) (omega arith)))) }
 
 pub returns-in-Break-free : need.returns-in-Break-free
 returns-in-Break-free c =
@@ -33,5 +35,5 @@ returns-in-Break-free c =
     let same = columns .size ∙ rows .size in
     record {
       size = told .size ∙ same;
-      read = rw (p .1, p .2) (later _ _ (rows .read) (later _ _ (columns .read) (check-passed (le-leb _ _ (c .if-entries-rows .left)) (here (field-at same (told .read))))));
+      read = rw (p .1, p .2) (later _ _ (rows .read) (later _ _ (columns .read) (check-passed (le-leb (c .in-Continue-rows .rows * c .in-Continue-columns .columns) (c .args .entries) (omega arith)) (here (field-at same (told .read))))));
     }
