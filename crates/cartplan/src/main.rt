@@ -2,12 +2,12 @@
 mod floor_text;
 
 use floor_text::print_floor;
-use sitefile::Fault;
 use std::env;
 use std::error::AnyError;
 use std::fs;
 use tables::Cell;
 use tables::LONGEST_SIDE;
+use sitefile::fault::FaultDisplay;
 
 const HELP: &str = "cartplan checks the site files of tow carts.
 
@@ -68,18 +68,10 @@ fn check(rt: &LibcRuntime, path: &str) -> Result<Outcome, AnyError> {
             Ok(Outcome::Done)
         }
         Err(fault) => {
-            print_fault(rt, fault)?;
+            println!(rt, "{fault}")?;
             Ok(Outcome::Refused)
         }
     }
-}
-
-fn print_fault(rt: &LibcRuntime, fault: Fault) -> Result<(), AnyError> {
-    let cause = fault.cause.number();
-    let byte = fault.byte;
-    let layer = fault.layer.number();
-    println!(rt, "fault {cause} at {byte} layer {layer}")?;
-    Ok(())
 }
 
 fn serve(rt: &LibcRuntime) -> Result<Outcome, AnyError> {

@@ -1,5 +1,8 @@
 -- Faults: the number of each cause and each layer, and which cause is told where by which layer. Assumes nothing.
+use mathlib.Core.List.{List, _++_}
 use Prim.Native.Nat.{ℕ}
+use lib.Chars.{codes}
+use Rattle.std.specs.Written.{decimal}
 use Rattle.sitefile.specs.declared.fault.Cause.{Cause}
 use Rattle.sitefile.specs.declared.fault.Cause.the-variants.{MissingByte, MalformedNumber, UnknownKind, OutOfRange, SmallTable, BytesLeft}
 use Rattle.sitefile.specs.declared.fault.Layer.{Layer}
@@ -40,3 +43,7 @@ small-table = record { cause = SmallTable; byte = 0; layer = Site }
 -- the first byte after the last record is at `first`
 abbrev pub bytes-left : ℕ → Fault
 bytes-left first = record { cause = BytesLeft; byte = first; layer = Site }
+
+-- a fault as it is printed
+abbrev pub fault-line : Fault → List ℕ
+fault-line f = codes "fault " ++ (decimal (cause-number (f .cause)) ++ (codes " at " ++ (decimal (f .byte) ++ (codes " layer " ++ decimal (layer-number (f .layer))))))

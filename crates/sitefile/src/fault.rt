@@ -1,6 +1,8 @@
 // What the reader says of a file that it does not take.
 ghost use mathlib.Core.Path.{_≡_};
-ghost use Rattle.sitefile.specs.Faults.{cause-number, layer-number};
+ghost use Rattle.std.specs.declared.option.Option.the-variants.{Some};
+ghost use Rattle.sitefile.specs.Faults.{cause-number, layer-number, fault-line};
+use std::fmt;
 
 #[derive(Clone, Copy, Debug, PartialEq, Eq)]
 pub enum Cause {
@@ -59,4 +61,15 @@ pub struct Fault {
     // Where in the file, counted from 0.
     pub byte: usize,
     pub layer: Layer,
+}
+
+pub impl fmt::Display for Fault as FaultDisplay {
+    ghost shown = { λ fault. Some (fault-line fault) };
+
+    fn fmt<W: fmt::Write>(&self, f: &mut fmt::Formatter<W>) -> fmt::Result {
+        let cause = self.cause.number();
+        let byte = self.byte;
+        let layer = self.layer.number();
+        write!(f, "fault {cause} at {byte} layer {layer}")
+    }
 }

@@ -1,8 +1,6 @@
 // The file of a floor: after the byte 46 the rows, the columns, the free time and each cell.
 ghost use mathlib.Core.Path.{_≡_};
 ghost use mathlib.Core.List.{_∷_};
-ghost use lib.ListN.{length};
-ghost use Prim.Native.Nat.{_+_};
 ghost use Rattle.sitefile.specs.Readers.{ahead};
 ghost use Rattle.sitefile.specs.Floors.{floor-kind, Loads};
 use crate::fault::Cause;

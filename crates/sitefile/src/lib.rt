@@ -1,8 +1,8 @@
 // Reads site files: bytes that the customer lends, from which the customer's tables are filled.
 pub mod fault;
-pub mod floor;
-pub mod numbers;
-pub mod reader;
+mod floor;
+mod numbers;
+mod reader;
 mod records;
 
 pub use fault::Cause;

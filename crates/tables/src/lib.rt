@@ -1,4 +1,7 @@
 // The tables that a customer lends. A site file is read into them and a site stands on them; neither knows the other.
+ghost use Rattle.std.specs.declared.option.Option.the-variants.{Some};
+ghost use Rattle.tables.specs.Texts.{cell-text, head-line};
+use std::fmt;
 
 // An entry for each cell of a floor.
 #[derive(Clone, Copy, Debug, PartialEq, Eq)]
@@ -9,6 +12,17 @@ pub enum Cell {
     Open(u32),
 }
 
+pub impl fmt::Display for Cell as CellDisplay {
+    ghost shown = { λ cell. Some (cell-text cell) };
+
+    fn fmt<W: fmt::Write>(&self, f: &mut fmt::Formatter<W>) -> fmt::Result {
+        match *self {
+            Cell::Closed => write!(f, "-"),
+            Cell::Open(time) => write!(f, "{time}"),
+        }
+    }
+}
+
 // The numbers that a floor's cells are read by.
 #[derive(Clone, Copy, Debug, PartialEq, Eq)]
 pub struct FloorHead {
@@ -16,6 +30,17 @@ pub struct FloorHead {
     pub columns: u32,
     // The least time to enter a cell, in milliseconds.
     pub free: u32,
+}
+
+pub impl fmt::Display for FloorHead as FloorHeadDisplay {
+    ghost shown = { λ head. Some (head-line head) };
+
+    fn fmt<W: fmt::Write>(&self, f: &mut fmt::Formatter<W>) -> fmt::Result {
+        let rows = self.rows;
+        let columns = self.columns;
+        let free = self.free;
+        write!(f, "floor {rows} x {columns}, free {free}")
+    }
 }
 
 // The most rows, and the most columns, of a floor.
