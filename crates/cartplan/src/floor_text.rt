@@ -3,8 +3,8 @@ use std::alloc::AllocError;
 use std::alloc::Global;
 use std::error::AnyError;
 use tables::Cell;
-use tables::FloorHead;
 use tables::CellDisplay;
+use tables::FloorHead;
 use tables::FloorHeadDisplay;
 
 // The cells of a row, blanks between.

@@ -2,12 +2,12 @@
 mod floor_text;
 
 use floor_text::print_floor;
+use sitefile::fault::FaultDisplay;
 use std::env;
 use std::error::AnyError;
 use std::fs;
 use tables::Cell;
 use tables::LONGEST_SIDE;
-use sitefile::fault::FaultDisplay;
 
 const HELP: &str = "cartplan checks the site files of tow carts.
 
