@@ -12,7 +12,7 @@ use Rattle.std.proofs.shelf.Lists.{joined-more, drop-more, drop-all, set-at, le
 use Rattle.std.proofs.shelf.Tests.{or-from, or-right, ne-eqb}
 use Rattle.tables.specs.declared.Cell.{Cell}
 use Rattle.tables.specs.declared.Cell.the-variants.{Closed, Open}
-use Rattle.tables.specs.Floors.{between, longest-time, is-cell, AreCells}
+use Rattle.tables.specs.Floors.{between, longest-segment, is-cell, AreCells}
 use Rattle.sitefile.specs.declared.fault.Fault.{Fault}
 use Rattle.sitefile.specs.declared.reader.Reader.{Reader}
 use Rattle.sitefile.specs.Readers.{ahead, size}
@@ -24,8 +24,8 @@ use Rattle.sitefile.specs.Records.{CellRead, CellsRead, Walked, Filled}
 use Rattle.sitefile.proofs.Forms.{encode-same}
 use Rattle.sitefile.proofs.Fields.{not-between, at-least, at-most, field-read, field-at, fault-same, Holds, with-field}
 
-pub no-cell : (free n : ℕ) → (n ≡ 0 → ⊥) → (n < free) ⊎ ((free ≤ n) × (longest-time < n)) → is-cell-number free n ≡ false
-no-cell free n some e = or-from _ _ (ne-eqb n 0 some) (not-between free longest-time n e)
+pub no-cell : (free n : ℕ) → (n ≡ 0 → ⊥) → (n < free) ⊎ ((free ≤ n) × (longest-segment < n)) → is-cell-number free n ≡ false
+no-cell free n some e = or-from _ _ (ne-eqb n 0 some) (not-between free longest-segment n e)
 
 cell-ranged : (free : ℕ) (cell : Cell) → is-cell free cell ≡ true → is-cell-number free (cell-number cell) ≡ true
 cell-ranged free Closed e = refl
@@ -33,7 +33,7 @@ cell-ranged free (Open time) e = or-right _ _ e
 
 cell-small : (free : ℕ) (cell : Cell) → is-cell free cell ≡ true → cell-number cell ≤ greatest
 cell-small free Closed e = omega arith
-cell-small free (Open time) e = omega (arith, at-most free longest-time time e)
+cell-small free (Open time) e = omega (arith, at-most free longest-segment time e)
 
 cell-field : (free : ℕ) {bytes rest : List ℕ} (cell : Cell) → is-cell free cell ≡ true → bytes ≡ encode-cell cell ++ rest → FieldRead (is-cell-number free) bytes (cell-number cell) rest
 cell-field free cell in-range form = field-read (cell-ranged free cell in-range) (cell-small free cell in-range) form
@@ -106,8 +106,8 @@ no-second-fault {size} {free} {count} {bytes} {rest} {cells} {f} long all x =
 
 cell-same : (free : ℕ) (a b : Cell) → 1 ≤ free → is-cell free a ≡ true → is-cell free b ≡ true → cell-number a ≡ cell-number b → a ≡ b
 cell-same free Closed Closed some x y e = refl
-cell-same free Closed (Open t) some x y e = absurd (omega (arith, at-least free longest-time t y))
-cell-same free (Open t) Closed some x y e = absurd (omega (arith, at-least free longest-time t x))
+cell-same free Closed (Open t) some x y e = absurd (omega (arith, at-least free longest-segment t y))
+cell-same free (Open t) Closed some x y e = absurd (omega (arith, at-least free longest-segment t x))
 cell-same free (Open s) (Open t) some x y e = ap Open e
 
 pub cells-same : (free : ℕ) (xs ys : List Cell) {bytes r s : List ℕ} → 1 ≤ free → length xs ≡ length ys → CellsRead free bytes xs r → CellsRead free bytes ys s → (xs ≡ ys) × (r ≡ s)

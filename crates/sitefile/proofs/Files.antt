@@ -13,7 +13,7 @@ use Rattle.std.proofs.shelf.Lists.{length-take-le}
 use Rattle.std.proofs.shelf.Tests.{leb-true, le-leb}
 use Rattle.tables.specs.declared.Cell.{Cell}
 use Rattle.tables.specs.declared.FloorHead.{FloorHead}
-use Rattle.tables.specs.Floors.{longest-time, AreCells, FloorDescription, KeepsRanges}
+use Rattle.tables.specs.Floors.{longest-segment, AreCells, FloorDescription, KeepsRanges}
 use Rattle.sitefile.specs.declared.fault.Fault.{Fault}
 use Rattle.sitefile.specs.declared.reader.Reader.{Reader}
 use Rattle.sitefile.specs.Readers.{ahead}
@@ -31,7 +31,7 @@ pub after-head : {size entries : ℕ} {bytes rest : List ℕ} {head : FloorHead}
 after-head {rest = rest} {head = head} h x =
     let rows = at-most 1 64 (head .rows) (h .rows-ranged) in
     let columns = at-most 1 64 (head .columns) (h .columns-ranged) in
-    let free = at-most 1 longest-time (head .free) (h .free-ranged) in
+    let free = at-most 1 longest-segment (head .free) (h .free-ranged) in
     later (head .rows) (encode (head .columns) ++ (encode (head .free) ++ rest)) (field-read (h .rows-ranged) (omega arith) (h .form))
     (later (head .columns) (encode (head .free) ++ rest) (field-read (h .columns-ranged) (omega arith) refl)
     (check-passed (h .roomy) (later (head .free) rest (field-read (h .free-ranged) (omega arith) refl) x)))
@@ -41,7 +41,7 @@ floor-holds : (size entries : ℕ) (d : FloorDescription) (rest : List ℕ) → 
 floor-holds size entries d rest k few e =
     let rows = at-most 1 64 (d .head .rows) (k .rows-ranged) in
     let columns = at-most 1 64 (d .head .columns) (k .columns-ranged) in
-    let free = at-most 1 longest-time (d .head .free) (k .free-ranged) in
+    let free = at-most 1 longest-segment (d .head .free) (k .free-ranged) in
     let cells = joined encode-cell (d .cells) in
     let all = subst (Holds size (cells-then (d .head .rows * d .head .columns) (d .head .free) ended)) (append-nil cells) (cells-hold size (d .head .free) (d .cells) _ ended [] (k .cells-counted) (k .cells-ranged) to-the-end) in
     with-field (d .head .rows) (encode (d .head .columns) ++ (encode (d .head .free) ++ cells)) (field-read (k .rows-ranged) (omega arith) (tail-same e))
@@ -81,7 +81,7 @@ layout-same d e a b =
     let free = encode-same 4 (d .head .free) (e .head .free) _ _ (columns .1) in
     let counts : d .head .rows * d .head .columns ≡ e .head .rows * e .head .columns = (λ i. rows .0 i * columns .0 i) in
     let cells = cells-same (d .head .free) (d .cells) (e .cells) {r = []} {s = []}
-    (at-least 1 longest-time (d .head .free) (a .ranged .free-ranged))
+    (at-least 1 longest-segment (d .head .free) (a .ranged .free-ranged))
     (a .ranged .cells-counted ∙ counts ∙ sym (b .ranged .cells-counted))
     (record { form = sym (append-nil (joined encode-cell (d .cells))); in-range = a .ranged .cells-ranged })
     (record { form = free .1 ∙ sym (append-nil (joined encode-cell (e .cells))); in-range = subst (λ n. AreCells n (e .cells)) (sym (free .0)) (b .ranged .cells-ranged) }) in
@@ -117,7 +117,7 @@ pub floor-accepted : {count : ℕ} {bytes end : List ℕ} {head : FloorHead} {mi
     length filled ≡ count → CellsRead (head .free) (ahead mid) filled end →
     Loads (floor-kind ∷ bytes) table (filled ++ drop count table) (Ok head)
 floor-accepted {count} {bytes} {head = head} {mid = mid} {table = table} {filled = filled} h counted w none long read =
-    let free = at-least 1 longest-time (head .free) (h .free-ranged) in
+    let free = at-least 1 longest-segment (head .free) (h .free-ranged) in
     let last = cells-same (head .free) filled (w .cells) free (long ∙ sym (w .counted)) read (w .read) .1 ∙ none in
     let rest : ahead mid ≡ joined encode-cell filled = read .form ∙ ap (λ l. joined encode-cell filled ++ l) last ∙ append-nil (joined encode-cell filled) in
     let room = leb-true _ _ (h .roomy) in

@@ -12,7 +12,7 @@ use Rattle.std.specs.declared.result.Result.the-variants.{Ok, Err}
 use Rattle.tables.specs.declared.Cell.{Cell}
 use Rattle.tables.specs.declared.Cell.the-variants.{Closed, Open}
 use Rattle.tables.specs.declared.FloorHead.{FloorHead}
-use Rattle.tables.specs.Floors.{between, longest-time, is-side, is-free-time, FloorDescription, KeepsRanges}
+use Rattle.tables.specs.Floors.{between, longest-segment, is-side, is-free-time, FloorDescription, KeepsRanges}
 use Rattle.sitefile.specs.declared.fault.Fault.{Fault}
 use Rattle.sitefile.specs.Faults.{missing-byte, unknown-kind, small-table}
 use Rattle.sitefile.specs.Numbers.{encode}
@@ -48,7 +48,7 @@ pub record Accepts (file : List ℕ) (entries : ℕ) (d : FloorDescription) : Ty
 -- The first fault
 
 abbrev pub is-cell-number : ℕ → ℕ → Bool
-is-cell-number free n = eqb n 0 || between free longest-time n
+is-cell-number free n = eqb n 0 || between free longest-segment n
 
 abbrev pub cells-then : ℕ → ℕ → Format → Format
 cells-then zero free next = next

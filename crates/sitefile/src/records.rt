@@ -14,8 +14,8 @@ use crate::fault::Layer;
 use crate::reader::Reader;
 use tables::Cell;
 use tables::FloorHead;
+use tables::LONGEST_SEGMENT;
 use tables::LONGEST_SIDE;
-use tables::LONGEST_TIME;
 
 impl Reader<'_> {
     // A number from `lowest` to `highest`.
@@ -45,7 +45,7 @@ impl Reader<'_> {
         if time == 0 {
             return Ok(Cell::Closed);
         }
-        if time < free || LONGEST_TIME < time {
+        if time < free || LONGEST_SEGMENT < time {
             return Err(Fault {
                 cause: Cause::OutOfRange,
                 byte: at,
@@ -69,7 +69,7 @@ impl Reader<'_> {
                 layer: Layer::Site,
             });
         }
-        let free = self.ranged(1, LONGEST_TIME)?;
+        let free = self.ranged(1, LONGEST_SEGMENT)?;
         Ok(FloorHead {
             rows,
             columns,

@@ -15,8 +15,8 @@ abbrev pub between : ℕ → ℕ → ℕ → Bool
 between lowest highest n = leb lowest n && leb n highest
 
 -- the most milliseconds that a segment may cost
-abbrev pub longest-time : ℕ
-longest-time = 1000000
+abbrev pub longest-segment : ℕ
+longest-segment = 1000000
 
 -- rows and columns: 1 to 64
 abbrev pub is-side : ℕ → Bool
@@ -24,12 +24,12 @@ is-side n = between 1 64 n
 
 -- the free time: 1 to 1,000,000
 abbrev pub is-free-time : ℕ → Bool
-is-free-time n = between 1 longest-time n
+is-free-time n = between 1 longest-segment n
 
 -- a cell is closed, or takes from the free time to 1,000,000
 abbrev pub is-cell : ℕ → Cell → Bool
 is-cell free Closed = true
-is-cell free (Open time) = between free longest-time time
+is-cell free (Open time) = between free longest-segment time
 
 abbrev pub AreCells : ℕ → List Cell → Type 0
 AreCells free cells = All (λ cell. is-cell free cell ≡ true) cells

@@ -47,4 +47,4 @@ pub impl fmt::Display for FloorHead as FloorHeadDisplay {
 pub const LONGEST_SIDE: u32 = 64;
 
 // The most milliseconds that a segment may cost.
-pub const LONGEST_TIME: u32 = 1_000_000;
+pub const LONGEST_SEGMENT: u32 = 1_000_000;

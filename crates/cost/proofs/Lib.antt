@@ -1,0 +1,4 @@
+pub mod LengthLemmas
+pub mod Totals
+pub mod MillisecondsLaws
+pub mod CrossingsFirstLaws

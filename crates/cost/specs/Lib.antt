@@ -1,0 +1,4 @@
+pub mod Costs
+pub mod Milliseconds
+pub mod CrossingsFirst
+pub mod Lengths

@@ -1,0 +1,9 @@
+pub mod Lists
+pub mod Counts
+pub mod Distances
+pub mod Estimates
+pub mod Relaxation
+pub mod Settings
+pub mod Search
+pub mod Links
+pub mod Outcomes
