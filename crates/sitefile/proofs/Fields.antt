@@ -6,16 +6,19 @@ use mathlib.Core.List.{List, [], _∷_, _++_}
 use Prim.Native.Nat.{ℕ, _-_, _≤_, _<_}
 use native.Mathlib.Omega.{arith}
 use lib.ListN.{length}
-use Rattle.std.proofs.shelf.Tests.{lt-leb, leb-true, and-left, and-right, and-parts, both-ways}
+use Rattle.std.proofs.shelf.Tests.{lt-leb, le-leb, leb-true, and-from, and-left, and-right, and-parts, both-ways}
 use Rattle.tables.specs.Floors.{between}
 use Rattle.sitefile.specs.declared.fault.Fault.{Fault}
 use Rattle.sitefile.specs.Faults.{bytes-left}
 use Rattle.sitefile.specs.Numbers.{encode, greatest}
-use Rattle.sitefile.specs.Formats.{Format, ended, check, field, FieldRead, FieldFault, no-number, outside, FirstFault, here, later, failed, passed, goes-on}
+use Rattle.sitefile.specs.Formats.{Format, ended, position, check, field, FieldRead, FieldFault, no-number, outside, FirstFault, here, later, at-position, failed, passed, goes-on}
 use Rattle.sitefile.proofs.Forms.{begins-same, no-fault, number-same}
 
 pub not-between : (lowest highest n : ℕ) → (n < lowest) ⊎ ((lowest ≤ n) × (highest < n)) → between lowest highest n ≡ false
 not-between lowest highest n e = ⊎-elim (λ h. and-left _ _ (lt-leb lowest n h)) (λ h. and-right _ _ (lt-leb n highest (h .1))) e
+
+pub is-between : (lowest highest n : ℕ) → lowest ≤ n → n ≤ highest → between lowest highest n ≡ true
+is-between lowest highest n low high = and-from _ _ (le-leb lowest n low) (le-leb n highest high)
 
 pub at-least : (lowest highest n : ℕ) → between lowest highest n ≡ true → lowest ≤ n
 at-least lowest highest n e = leb-true lowest n (and-parts _ _ e .0)
@@ -62,6 +65,7 @@ fault-same (later n rest r x) (here y) = absurd (not-both y r)
 fault-same {size} {g = g} (later {next = next} n rest r x) (later m rest′ r′ y) =
     let same = begins-same (r′ .begins) (r .begins) in
     fault-same x (subst (λ l. FirstFault size (next n) l g) (same .1) (subst (λ k. FirstFault size (next k) rest′ g) (same .0) y))
+fault-same (at-position x) (at-position y) = fault-same x y
 fault-same failed failed = refl
 fault-same (passed x) (passed y) = fault-same x y
 fault-same (goes-on b bytes) (goes-on b′ bytes′) = refl
@@ -69,6 +73,7 @@ fault-same (goes-on b bytes) (goes-on b′ bytes′) = refl
 -- Bytes that hold what a format says have no fault.
 pub data Holds (size : ℕ) : Format → List ℕ → Type 0 where
   to-the-end : Holds size ended []
+  with-position : {next : ℕ → Format} {bytes : List ℕ} → Holds size (next (size - length bytes)) bytes → Holds size (position next) bytes
   with-check : {next : Format} {bytes : List ℕ} {g : Fault} {t : Bool} → t ≡ true → Holds size next bytes → Holds size (check t g next) bytes
   with-field : {ranged : ℕ → Bool} {next : ℕ → Format} {bytes : List ℕ} (n : ℕ) (rest : List ℕ) → FieldRead ranged bytes n rest → Holds size (next n) rest → Holds size (field ranged next) bytes
 
@@ -77,6 +82,27 @@ faultless (here x) (with-field n rest r h) = not-both x r
 faultless {size} (later {next = next} n rest r x) (with-field m rest′ r′ h) =
     let same = begins-same (r′ .begins) (r .begins) in
     faultless x (subst (Holds size (next n)) (same .1) (subst (λ k. Holds size (next k) rest′) (same .0) h))
+faultless (at-position x) (with-position h) = faultless x h
 faultless failed (with-check e h) = both-ways _ refl e
 faultless (passed x) (with-check e h) = faultless x h
 faultless {size = size} (goes-on b bytes) h = elim h [ ]
+
+-- What a number in its range, a question that is passed and a position carry from what follows to what stands before it: a fault, and the lack of one.
+pub record Carries (size : ℕ) (T : Format → List ℕ → Type 0) : Type 0 where
+  pub over-field : (ranged : ℕ → Bool) (next : ℕ → Format) (bytes : List ℕ) (n : ℕ) (rest : List ℕ) → FieldRead ranged bytes n rest → T (next n) rest → T (field ranged next) bytes
+  pub over-check : (t : Bool) (g : Fault) (next : Format) (bytes : List ℕ) → t ≡ true → T next bytes → T (check t g next) bytes
+  pub over-position : (next : ℕ → Format) (bytes : List ℕ) → T (next (size - length bytes)) bytes → T (position next) bytes
+
+pub carries-fault : (size : ℕ) (f : Fault) → Carries size (λ format bytes. FirstFault size format bytes f)
+carries-fault size f = record {
+  over-field = λ ranged next bytes n rest r x. later n rest r x;
+  over-check = λ t g next bytes e x. check-passed e x;
+  over-position = λ next bytes x. at-position x;
+}
+
+pub carries-holding : (size : ℕ) → Carries size (Holds size)
+carries-holding size = record {
+  over-field = λ ranged next bytes n rest r h. with-field n rest r h;
+  over-check = λ t g next bytes e h. with-check e h;
+  over-position = λ next bytes h. with-position h;
+}

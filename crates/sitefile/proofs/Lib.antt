@@ -1,5 +1,11 @@
 pub mod Cells
+pub mod FloorFiles
 pub mod Fields
-pub mod Files
 pub mod Forms
+pub mod Lanes
+pub mod Offsets
+pub mod Rules
+pub mod Runs
+pub mod SiteFiles
+pub mod TapeFiles
 pub mod Walks

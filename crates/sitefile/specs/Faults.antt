@@ -4,7 +4,7 @@ use Prim.Native.Nat.{ℕ}
 use lib.Chars.{codes}
 use Rattle.std.specs.Written.{decimal}
 use Rattle.sitefile.specs.declared.fault.Cause.{Cause}
-use Rattle.sitefile.specs.declared.fault.Cause.the-variants.{MissingByte, MalformedNumber, UnknownKind, OutOfRange, SmallTable, BytesLeft}
+use Rattle.sitefile.specs.declared.fault.Cause.the-variants.{MissingByte, MalformedNumber, UnknownKind, OutOfRange, BrokenRule, SmallTable, BytesLeft}
 use Rattle.sitefile.specs.declared.fault.Layer.{Layer}
 use Rattle.sitefile.specs.declared.fault.Layer.the-variants.{Number, Record, Site}
 use Rattle.sitefile.specs.declared.fault.Fault.{Fault}
@@ -14,6 +14,7 @@ cause-number MissingByte = 21
 cause-number MalformedNumber = 22
 cause-number UnknownKind = 23
 cause-number OutOfRange = 24
+cause-number BrokenRule = 25
 cause-number SmallTable = 26
 cause-number BytesLeft = 27
 
@@ -36,6 +37,10 @@ unknown-kind = record { cause = UnknownKind; byte = 0; layer = Site }
 -- the number that begins at `first` is out of its range
 abbrev pub out-of-range : ℕ → Fault
 out-of-range first = record { cause = OutOfRange; byte = first; layer = Record }
+
+-- the record that begins at `first` breaks a rule
+abbrev pub broken-rule : ℕ → Fault
+broken-rule first = record { cause = BrokenRule; byte = first; layer = Record }
 
 abbrev pub small-table : Fault
 small-table = record { cause = SmallTable; byte = 0; layer = Site }

@@ -1,24 +1,21 @@
 -- The file of a floor. Assumes nothing.
 use mathlib.Core.Path.{_≡_}
-use mathlib.Core.Bool.{Bool, _||_}
+use mathlib.Core.Bool.{Bool, true, _||_, cond}
 use mathlib.Core.List.{List, [], _∷_, _++_}
-use Prim.Native.Nat.{ℕ, zero, suc, _*_, _≤_}
+use Prim.Native.Nat.{ℕ, _*_, _≤_}
 use lib.Dec.{leb, eqb}
 use lib.ListN.{length, drop}
-use Rattle.std.specs.Joined.{joined}
-use Rattle.std.specs.Results.{Cases}
 use Rattle.std.specs.declared.result.Result.{Result}
 use Rattle.std.specs.declared.result.Result.the-variants.{Ok, Err}
 use Rattle.tables.specs.declared.Cell.{Cell}
 use Rattle.tables.specs.declared.Cell.the-variants.{Closed, Open}
 use Rattle.tables.specs.declared.FloorHead.{FloorHead}
-use Rattle.tables.specs.Floors.{between, longest-segment, is-side, is-free-time, FloorDescription, KeepsRanges}
+use Rattle.tables.specs.Floors.{between, longest-segment, is-side, is-free-time, is-cell, FloorDescription, KeepsRanges}
 use Rattle.sitefile.specs.declared.fault.Fault.{Fault}
-use Rattle.sitefile.specs.Faults.{missing-byte, unknown-kind, small-table}
+use Rattle.sitefile.specs.Faults.{small-table}
 use Rattle.sitefile.specs.Numbers.{encode}
 use Rattle.sitefile.specs.Formats.{Format, ended, check, field, FirstFault}
-
--- The layout
+use Rattle.sitefile.specs.Records.{Records, encode-all, many}
 
 -- the byte that a floor's file begins with
 abbrev pub floor-kind : ℕ
@@ -29,45 +26,46 @@ abbrev pub cell-number : Cell → ℕ
 cell-number Closed = 0
 cell-number (Open time) = time
 
-abbrev pub encode-cell : Cell → List ℕ
-encode-cell cell = encode (cell-number cell)
-
-abbrev pub encode-head : FloorHead → List ℕ → List ℕ
-encode-head head rest = encode (head .rows) ++ (encode (head .columns) ++ (encode (head .free) ++ rest))
-
--- the kind, rows, columns, free time, then each cell row by row
-abbrev pub layout : FloorDescription → List ℕ
-layout d = floor-kind ∷ encode-head (d .head) (joined encode-cell (d .cells))
-
--- the file describes the floor d, and a table with `entries` entries is large enough for it
-pub record Accepts (file : List ℕ) (entries : ℕ) (d : FloorDescription) : Type 0 where
-  pub ranged : KeepsRanges d
-  pub laid-out : file ≡ layout d
-  pub roomy : length (d .cells) ≤ entries
-
--- The first fault
+abbrev pub number-cell : ℕ → Cell
+number-cell n = cond (eqb n 0) Closed (Open n)
 
 abbrev pub is-cell-number : ℕ → ℕ → Bool
 is-cell-number free n = eqb n 0 || between free longest-segment n
 
-abbrev pub cells-then : ℕ → ℕ → Format → Format
-cells-then zero free next = next
-cells-then (suc count) free next = field (is-cell-number free) (λ _. cells-then count free next)
+-- the cells of a floor with this free time
+abbrev pub cells : ℕ → Records Cell
+cells free = record {
+  encode = λ cell rest. encode (cell-number cell) ++ rest;
+  format = λ _ next. field (is-cell-number free) (λ n. next (number-cell n));
+  allowed = λ _ cell. is-cell free cell;
+}
 
--- what follows the first byte; whether the table is large enough is asked as soon as the sides are known
+abbrev pub encode-head : FloorHead → List ℕ → List ℕ
+encode-head head rest = encode (head .rows) ++ (encode (head .columns) ++ (encode (head .free) ++ rest))
+
+-- rows, columns, free time, then each cell row by row
+abbrev pub floor-bytes : FloorDescription → List ℕ
+floor-bytes d = encode-head (d .head) (encode-all (cells (d .head .free)) (d .cells) [])
+
+-- the kind, and then those
+abbrev pub floor-layout : FloorDescription → List ℕ
+floor-layout d = floor-kind ∷ floor-bytes d
+
+-- what follows the first byte, where the table of cells has `entries` entries: that is asked as soon as the sides are known
 abbrev pub floor-format : ℕ → Format
 floor-format entries =
-    field is-side (λ rows. field is-side (λ columns. check (leb (rows * columns) entries) small-table (field is-free-time (λ free. cells-then (rows * columns) free ended))))
+    field is-side (λ rows. field is-side (λ columns. check (leb (rows * columns) entries) small-table (field is-free-time (λ free. many (cells free) (rows * columns) [] (λ _. ended)))))
 
--- f is the first fault of a file that is read into a table with `entries` entries
-pub data FileFault (file : List ℕ) (entries : ℕ) (f : Fault) : Type 0 where
-  empty : file ≡ [] → f ≡ missing-byte 0 → FileFault file entries f
-  unknown : (kind : ℕ) (rest : List ℕ) → file ≡ kind ∷ rest → (kind ≡ floor-kind → ⊥) → f ≡ unknown-kind → FileFault file entries f
-  in-floor : (rest : List ℕ) → file ≡ floor-kind ∷ rest → FirstFault (length file) (floor-format entries) rest f → FileFault file entries f
+-- the head of a floor, for which the table is large enough
+pub record HeadRead (entries : ℕ) (bytes : List ℕ) (head : FloorHead) (rest : List ℕ) : Type 0 where
+  pub form : bytes ≡ encode-head head rest
+  pub rows-ranged : is-side (head .rows) ≡ true
+  pub columns-ranged : is-side (head .columns) ≡ true
+  pub free-ranged : is-free-time (head .free) ≡ true
+  pub roomy : leb (head .rows * head .columns) entries ≡ true
 
--- The load: a file that describes a floor is accepted, and its cells stand in the table, whose other entries are kept; any other has a first fault, which is told, and the table is unchanged.
-pub record Loads (file : List ℕ) (table table′ : List Cell) (r : Result FloorHead Fault) : Type 0 where
-  -- one of the two is so
-  pub answer : Cases r (λ head. (d : FloorDescription) × Accepts file (length table) d × (head ≡ d .head)) (λ f. FileFault file (length table) f)
-  pub accepted : (d : FloorDescription) → Accepts file (length table) d → (r ≡ Ok (d .head)) × (table′ ≡ d .cells ++ drop (length (d .cells)) table)
-  pub faulty : (f : Fault) → FileFault file (length table) f → (r ≡ Err f) × (table′ ≡ table)
+-- What reading a floor after the first byte comes to: a floor that the bytes describe, whose cells then stand in the table, or the first fault.
+abbrev pub LoadsFloor : ℕ → List ℕ → List Cell → List Cell → Result FloorHead Fault → Type 0
+LoadsFloor size bytes table table′ (Ok head) =
+    (d : FloorDescription) × KeepsRanges d × (bytes ≡ floor-bytes d) × (length (d .cells) ≤ length table) × (head ≡ d .head) × (table′ ≡ d .cells ++ drop (length (d .cells)) table)
+LoadsFloor size bytes table table′ (Err f) = FirstFault size (floor-format (length table)) bytes f × (table′ ≡ table)

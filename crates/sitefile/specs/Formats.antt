@@ -11,6 +11,8 @@ use Rattle.sitefile.specs.Numbers.{Begins, NumberFault}
 pub data Format : Type 0 where
   -- nothing more
   ended : Format
+  -- what the position of the next byte leads to
+  position : (ℕ → Format) → Format
   -- a question with its answer, the fault if that is no, and then more
   check : Bool → Fault → Format → Format
   -- a number that passes the test of its range, and then what that number leads to
@@ -30,6 +32,7 @@ pub data FieldFault (size : ℕ) (ranged : ℕ → Bool) (bytes : List ℕ) (f :
 pub data FirstFault (size : ℕ) : Format → List ℕ → Fault → Type 0 where
   here : {ranged : ℕ → Bool} {next : ℕ → Format} {bytes : List ℕ} {f : Fault} → FieldFault size ranged bytes f → FirstFault size (field ranged next) bytes f
   later : {ranged : ℕ → Bool} {next : ℕ → Format} {bytes : List ℕ} {f : Fault} (n : ℕ) (rest : List ℕ) → FieldRead ranged bytes n rest → FirstFault size (next n) rest f → FirstFault size (field ranged next) bytes f
+  at-position : {next : ℕ → Format} {bytes : List ℕ} {f : Fault} → FirstFault size (next (size - length bytes)) bytes f → FirstFault size (position next) bytes f
   failed : {next : Format} {bytes : List ℕ} {f : Fault} → FirstFault size (check false f next) bytes f
   passed : {next : Format} {bytes : List ℕ} {f g : Fault} → FirstFault size next bytes f → FirstFault size (check true g next) bytes f
   goes-on : (b : ℕ) (bytes : List ℕ) → FirstFault size ended (b ∷ bytes) (bytes-left (size - length (b ∷ bytes)))

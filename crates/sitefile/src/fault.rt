@@ -14,6 +14,8 @@ pub enum Cause {
     UnknownKind,
     // A number outside its range.
     OutOfRange,
+    // A lane that breaks a rule of lanes.
+    BrokenRule,
     // A table of the customer's with too few entries.
     SmallTable,
     // Something follows the last record.
@@ -29,6 +31,7 @@ impl Cause {
             Cause::MalformedNumber => 22,
             Cause::UnknownKind => 23,
             Cause::OutOfRange => 24,
+            Cause::BrokenRule => 25,
             Cause::SmallTable => 26,
             Cause::BytesLeft => 27,
         }

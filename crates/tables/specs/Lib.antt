@@ -1,2 +1,4 @@
 pub mod Floors
+pub mod Tapes
 pub mod Texts
+pub mod Verdicts

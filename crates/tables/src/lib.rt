@@ -1,7 +1,35 @@
 // The tables that a customer lends. A site file is read into them and a site stands on them; neither knows the other.
+ghost use mathlib.Core.Path.{_≡_};
 ghost use Rattle.std.specs.declared.option.Option.the-variants.{Some};
 ghost use Rattle.tables.specs.Texts.{cell-text, head-line};
+ghost use Rattle.tables.specs.Verdicts.{verdict-number};
 use std::fmt;
+
+pub mod tape;
+
+pub use tape::Lane;
+pub use tape::LaneCost;
+pub use tape::LaneState;
+pub use tape::Place;
+pub use tape::TapeHead;
+
+// What is said of a head and its tables, which anybody may have written: whether they keep the rules.
+#[derive(Clone, Copy, Debug, PartialEq, Eq)]
+pub enum Verdict {
+    Sound,
+    Faulty,
+}
+
+impl Verdict {
+    pub fn number(self) -> u8
+        ensures { λ r. ⌜ r ≡ verdict-number self ⌝ }
+    {
+        match self {
+            Verdict::Sound => 0,
+            Verdict::Faulty => 28,
+        }
+    }
+}
 
 // An entry for each cell of a floor.
 #[derive(Clone, Copy, Debug, PartialEq, Eq)]

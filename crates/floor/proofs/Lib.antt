@@ -1,0 +1,5 @@
+pub mod Presence
+pub mod CellTables
+pub mod GridWays
+pub mod GridLaws
+pub mod FloorFacts

@@ -1,0 +1,2 @@
+pub mod TapeSites
+pub mod TapeReadings

@@ -1,0 +1,3 @@
+pub mod LaneRuns
+pub mod Blocks
+pub mod Entries
