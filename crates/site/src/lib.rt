@@ -1,5 +1,6 @@
 // A site: the places, ways and segments that carts drive on, known only by the questions it answers.
 ghost use mathlib.Core.Path.{_≡_};
+ghost use Prim.Native.Nat.{_<_};
 ghost use Rattle.cost.specs.declared.lengths.Length.the-variants.{Finite, Infinite};
 ghost use Rattle.routes.specs.Sites.{Meaning, Lawful, allowed};
 ghost use Rattle.site.specs.Questions.{WayAt, state-of, floor-of, settable-of, hint-of, can-set, after-set};
@@ -94,5 +95,16 @@ pub fn set_state<S: Site>(site: &mut S, segment: u16, state: Length<S::Cost>) ->
     match state {
         Length::Infinite => site.close(segment),
         Length::Finite(cost) => site.set_cost(segment, cost),
+    }
+}
+
+// The present cost of a segment of the site.
+pub fn cost_over<S: Site>(site: &S, segment: u16) -> Length<S::Cost>
+    requires { ⌜ segment < S·Site .meaning (now site) .segments ⌝ }
+    ensures { λ r. ⌜ r ≡ S·Site .meaning (now (site .entry)) .state segment ⌝ }
+{
+    match site.state(segment) {
+        Some(cost) => cost,
+        None => Length::Infinite,
     }
 }
