@@ -14,8 +14,12 @@ pub use estimates::lower_estimate;
 // The record that a planner keeps for each place.
 #[derive(Clone, Copy)]
 pub struct Entry<C> {
+    // What a route from the place to the target costs at least (the h-value).
     pub estimate: Length<C>,
+    // The least cost found so far of a route from the start to the place (the g-value).
     pub distance: Length<C>,
+    // The place before it on that route (the parent).
     pub link: u16,
+    // Whether the last search opened the place (expanded it).
     pub mark: bool,
 }
