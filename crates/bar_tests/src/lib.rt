@@ -1,4 +1,6 @@
 // Bars over a floor, asked as a planner asks them.
+#![tactic(auto)]
+
 use refusals::Refusal;
 
 // 0 where the call was granted, else the number of the refusal.

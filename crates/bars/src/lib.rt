@@ -1,4 +1,6 @@
 // Bars over any site, which are a site again: the one below with some segments closed and not settable.
+#![tactic(auto)]
+
 ghost use Rattle.std.specs.Prelude.{◌≡◌, [], ◌∷◌, if◌then◌else◌};
 ghost use Rattle.bars.specs.Barred.{below, barred, among, barred_site, bars_meaning, with_bar, bar_answer};
 ghost use Rattle.refusals.specs.Refusals.{is_granted};
@@ -22,7 +24,7 @@ pub struct Bars<S> {
 fn is_among(numbers: &[u16], number: u16) -> bool
     ensures { result ≡ among numbers.now number }
 {
-    for Listed in numbers {
+    for listed in numbers {
         if *listed == number {
             return true;
         }

@@ -1,4 +1,6 @@
 // cartplan: tells what a site file describes, or what is wrong with it.
+#![tactic(auto)]
+
 mod site_text;
 
 use anyhow::anyhow;

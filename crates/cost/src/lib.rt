@@ -1,4 +1,6 @@
 // Cost kinds, with the laws that each keeps, and the lengths over a kind.
+#![tactic(auto)]
+
 ghost use Rattle.std.specs.Prelude.{◌≡◌, true};
 ghost use Rattle.cost.specs.Costs.{Kind, Laws, Positive};
 

@@ -1,4 +1,6 @@
 // A floor: a grid of cells over a table that the customer lends.
+#![tactic(auto)]
+
 ghost use Rattle.floor.specs.FloorSites.{floor_meaning, has_grid, head_of};
 ghost use Rattle.floor.specs.Floors.{SiteOver};
 ghost use Rattle.std.specs.Prelude.{◌≡◌};

@@ -1,4 +1,6 @@
 // The planner over any site.
+#![tactic(auto)]
+
 ghost use Rattle.std.specs.Prelude.{◌≡◌, false, length};
 ghost use Rattle.planner.specs.Calls.{is_opened, OpenAnswer, Opens, MoveAnswer, Moves, RetargetAnswer, Retargets, SearchAnswer, Searches};
 

@@ -1,4 +1,6 @@
 // The planner's calls over a floor, a tape and bars.
+#![tactic(auto)]
+
 use cost::{Cost, Length};
 use refusals::Refusal;
 use search::Found;

@@ -1,4 +1,6 @@
 // Why a call is refused. A call puts its questions in a fixed order, and the first that is answered no is the reason.
+#![tactic(auto)]
+
 ghost use Rattle.std.specs.Prelude.{◌≡◌};
 ghost use Rattle.refusals.specs.Refusals.{refusal_number};
 

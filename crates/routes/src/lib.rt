@@ -1,4 +1,6 @@
 // The theory of routes: each function states theorems, proved of every cost kind and every site that keeps the rules.
+#![tactic(auto)]
+
 ghost use Rattle.routes.specs.Theorems.{DistanceExists, DistanceUnique, DistanceInfiniteWithoutRoute, DistanceSumsSegments, DistanceWithin};
 ghost use Rattle.routes.specs.Theorems.{SoundAtMostDistance, SoundAtMostRoute, HintAtMostDistance};
 ghost use Rattle.routes.specs.Theorems.{OpenIsSound, AlterKeepsSound, RetargetKeepsSound, SearchKeepsSound};

@@ -75,7 +75,7 @@ module _ {C : Type 0} {K : Kind C} (laws : Laws K) (positive : Positive K) {m : 
 
   module _ (r : List ℕ) (x : ℕ) (popped : Popped (Summable K sheet) (by_sum K sheet) q r n x) where
     pub place : x < m.places
-    place = omega (arith, long, popped.covered.Listed)
+    place = omega (arith, long, popped.covered.listed)
 
     unclosed : mark_of sheet x ≡ false
     unclosed = inv.unopened x popped.was
@@ -131,22 +131,22 @@ module _ {C : Type 0} {K : Kind C} (laws : Laws K) (positive : Positive K) {m : 
       improving = λ u f way above. found_within laws positive lawful start first (distance_of sheet) (mark_of sheet) (link_of sheet) inv.searching inv.linked x place u f way above
 
       module _ (after : List (Entry C)) (t : List ℕ) (k : ℕ) (swept : Swept K m x (m.ways x) (mark_place sheet x) after r t (n - 1) k) (long' : length after ≡ m.places) where
-        Listed : x < length sheet
-        Listed = popped.covered.Listed
+        listed : x < length sheet
+        listed = popped.covered.listed
 
         mark_x : mark_of after x ≡ true
-        mark_x = swept.mark x ∙ mark_here sheet x Listed
+        mark_x = swept.mark x ∙ mark_here sheet x listed
 
         mark_y : (y : ℕ) → (y ≡ x → ⊥) → mark_of after y ≡ mark_of sheet y
-        mark_y y away = swept.mark y ∙ mark_other sheet x Listed y away
+        mark_y y away = swept.mark y ∙ mark_other sheet x listed y away
 
         through : (s : ℕ) → sum K (distance_of (mark_place sheet x) x) (step K m x s) ≡ sum K (distance_of sheet x) (step K m x s)
-        through s = ap (λ d. sum K d (step K m x s)) (mark_distance sheet x Listed x)
+        through s = ap (λ d. sum K d (step K m x s)) (mark_distance sheet x listed x)
 
         expands : Expands K m x (distance_of sheet) (distance_of after) (mark_of sheet) (mark_of after)
         unfolding step
         expands = record {
-          lowered = λ s l. swept.distance s ∙ (λ j. lesser K (mark_distance sheet x Listed s j) (through s j));
+          lowered = λ s l. swept.distance s ∙ (λ j. lesser K (mark_distance sheet x listed s j) (through s j));
           marks = λ s l marked. ⊎_elim (λ (same : s ≡ x). inl same) (λ (away : s ≡ x → ⊥). inr (sym (mark_y s away) ∙ marked)) (cases_eq s x);
           marked_now = mark_x;
           stays = λ s l marked. ⊎_elim (λ (same : s ≡ x). subst (λ y. mark_of after y ≡ true) (sym same) mark_x) (λ (away : s ≡ x → ⊥). mark_y s away ∙ marked) (cases_eq s x);
@@ -156,7 +156,7 @@ module _ {C : Type 0} {K : Kind C} (laws : Laws K) (positive : Positive K) {m : 
         unfolding step
         relinks = record {
           either = λ s l. ⊎_elim
-              (λ kept. inl (kept.0 ∙ mark_distance sheet x Listed s, kept.1 ∙ mark_link sheet x Listed s))
+              (λ kept. inl (kept.0 ∙ mark_distance sheet x listed s, kept.1 ∙ mark_link sheet x listed s))
               (λ now. inr (now.0 ∙ through s, now.1)) (swept.link s);
         }
 
@@ -178,8 +178,8 @@ module _ {C : Type 0} {K : Kind C} (laws : Laws K) (positive : Positive K) {m : 
         queued_open y queued = ⊎_elim
             (λ was. mark_y y (λ same. popped.gone (subst (In (entries r) (n - 1)) same was)) ∙ inv.unopened y (popped.only y was))
             (λ fell. lowered_open y
-            (let z = (swept.queue.covered queued.0 queued.1).Listed in subst (λ v. v < m.places) queued.2 (omega (arith, long', z)))
-            (sym (ap (λ d. length_le K d (distance_of after y)) (mark_distance sheet x Listed y)) ∙ fell))
+            (let z = (swept.queue.covered queued.0 queued.1).listed in subst (λ v. v < m.places) queued.2 (omega (arith, long', z)))
+            (sym (ap (λ d. length_le K d (distance_of after y)) (mark_distance sheet x listed y)) ∙ fell))
             (swept.only y queued)
 
         still_waiting : (y : ℕ) → y < m.places → mark_of after y ≡ false → (sum_of K after y ≡ Infinite) ⊎ In (entries t) k y
@@ -187,7 +187,7 @@ module _ {C : Type 0} {K : Kind C} (laws : Laws K) (positive : Positive K) {m : 
             let away : y ≡ x → ⊥ = λ same. true≢false (sym (subst (λ z. mark_of after z ≡ true) (sym same) mark_x) ∙ o) in
             ⊎_elim
             (λ kept. ⊎_elim
-            (λ far. inl ((λ j. sum K ((kept ∙ mark_distance sheet x Listed y) j) ((swept.estimate y ∙ mark_estimate sheet x Listed y) j)) ∙ far))
+            (λ far. inl ((λ j. sum K ((kept ∙ mark_distance sheet x listed y) j) ((swept.estimate y ∙ mark_estimate sheet x listed y) j)) ∙ far))
             (λ was. inr (swept.old y (popped.old y was away)))
             (inv.waiting y l (sym (mark_y y away) ∙ o)))
             (λ now. ⊎_elim (λ far. inl (ap (sum K (distance_of after y)) far ∙ sum_infinite laws (distance_of after y))) (λ queued. inr queued) now)
@@ -198,7 +198,7 @@ module _ {C : Type 0} {K : Kind C} (laws : Laws K) (positive : Positive K) {m : 
           searching = searched;
           linked = links_turn laws lawful start first (distance_of sheet) (distance_of after) (mark_of sheet) (mark_of after) (link_of sheet) (link_of after) x place final inv.searching expands inv.linked relinks;
           opening = opening_turn laws lawful start target first end e sound (distance_of sheet) (distance_of after) (mark_of sheet) (mark_of after) x finite.0 inv.searching least finite.1 other expands inv.opening;
-          estimates = λ s. swept.estimate s ∙ mark_estimate sheet x Listed s ∙ inv.estimates s;
+          estimates = λ s. swept.estimate s ∙ mark_estimate sheet x listed s ∙ inv.estimates s;
           queue = swept.queue;
           unopened = queued_open;
           waiting = still_waiting;

@@ -12,11 +12,11 @@ use Rattle.queue.proofs.Keys.{rekeyed}
 use Rattle.search.specs.Exploring.{Ready, Improves, with_mark, mark_place}
 
 pub mark_written : {C : Type 0} (sheet : List (Entry C)) (p : ℕ) (old : Entry C) → p < length sheet → old ≡ get_or sheet p old → set sheet p (with_mark (get_or sheet p old)) ≡ mark_place sheet p
-mark_written sheet p old Listed is = ap (λ t. set sheet p (with_mark t)) (sym is ∙ get_or_read sheet p old Listed is blank)
+mark_written sheet p old listed is = ap (λ t. set sheet p (with_mark t)) (sym is ∙ get_or_read sheet p old listed is blank)
 
-module _ {C : Type 0} (sheet : List (Entry C)) (p : ℕ) (Listed : p < length sheet) where
+module _ {C : Type 0} (sheet : List (Entry C)) (p : ℕ) (listed : p < length sheet) where
   at : get_or (mark_place sheet p) p blank ≡ with_mark (get_or sheet p blank)
-  at = get_or-set_same sheet p (with_mark (get_or sheet p blank)) blank Listed
+  at = get_or-set_same sheet p (with_mark (get_or sheet p blank)) blank listed
 
   off : (s : ℕ) → (s ≡ p → ⊥) → get_or (mark_place sheet p) s blank ≡ get_or sheet s blank
   off s away = get_or-set_other sheet p s (with_mark (get_or sheet p blank)) blank away
@@ -50,7 +50,7 @@ module _ {C : Type 0} (sheet : List (Entry C)) (p : ℕ) (Listed : p < length sh
       estimates = λ s l. subst (Within K) (sym (mark_estimate s)) (ready.estimates s l);
       queue = rekeyed (Summable K sheet) (Summable K (mark_place sheet p)) (by_sum K sheet) (by_sum K (mark_place sheet p)) q n
           (λ x _ h. record {
-            Listed = omega (arith, length-set sheet p (with_mark (get_or sheet p blank)), h.Listed);
+            listed = omega (arith, length-set sheet p (with_mark (get_or sheet p blank)), h.listed);
             distance = subst (Within K) (sym (mark_distance x)) h.distance;
             estimate = subst (Within K) (sym (mark_estimate x)) h.estimate;
           })

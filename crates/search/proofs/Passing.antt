@@ -17,12 +17,12 @@ module _ {C : Type 0} (F : Entry C → Entry C) (n : ℕ) (before after : List (
 module _ {C : Type 0} (F : Entry C → Entry C) (n : ℕ) (before after : List (Entry C)) (h : Passed F n before after) where
   -- the entry that is read is as it was
   pub pass_read : (old : Entry C) → n < length after → old ≡ get_or after n old → get_or after n old ≡ get_or before n blank
-  pass_read old Listed is = sym is ∙ get_or_read after n old Listed is blank ∙ h.1 n (omega arith)
+  pass_read old listed is = sym is ∙ get_or_read after n old listed is blank ∙ h.1 n (omega arith)
 
   pub pass_more : (v : Entry C) → n < length after → v ≡ F (get_or before n blank) → Passed F (n + 1) before (set after n v)
-  pass_more v Listed is = (
+  pass_more v listed is = (
     (λ s l. ⊎_elim
-        (λ (same : s ≡ n). subst (λ z. get_or (set after n v) z blank ≡ F (get_or before z blank)) (sym same) (get_or-set_same after n v blank Listed ∙ is))
+        (λ (same : s ≡ n). subst (λ z. get_or (set after n v) z blank ≡ F (get_or before z blank)) (sym same) (get_or-set_same after n v blank listed ∙ is))
         (λ (away : s ≡ n → ⊥). get_or-set_other after n s v blank away ∙ h.0 s (omega arith)) (cases_eq s n)),
     (λ s l. get_or-set_other after n s v blank (λ same. omega arith) ∙ h.1 s (omega arith)),
   )

@@ -150,10 +150,10 @@ module _ {C : Type 0} {K : Kind C} (laws : Laws K) (m : Meaning C) (x : ℕ) whe
 
 -- a distance that was read, and what is offered by it
 pub read_distance : {C : Type 0} (sheet : List (Entry C)) (p : ℕ) (old : Entry C) → p < length sheet → old ≡ get_or sheet p old → (get_or sheet p old).distance ≡ distance_of sheet p
-read_distance sheet p old Listed is = ap (λ e. e.distance) (sym is ∙ get_or_read sheet p old Listed is blank)
+read_distance sheet p old listed is = ap (λ e. e.distance) (sym is ∙ get_or_read sheet p old listed is blank)
 
 pub offered_is : {C : Type 0} (K : Kind C) (sheet : List (Entry C)) (p : ℕ) (old : Entry C) (cost state d : Length C) → p < length sheet → old ≡ get_or sheet p old → cost ≡ state → d ≡ sum K (get_or sheet p old).distance cost → d ≡ sum K (distance_of sheet p) state
-offered_is K sheet p old cost state d Listed is same sums = sums ∙ (λ t. sum K (read_distance sheet p old Listed is t) (same t))
+offered_is K sheet p old cost state d listed is same sums = sums ∙ (λ t. sum K (read_distance sheet p old listed is t) (same t))
 
 -- the ways out of x in turn
 module _ {C : Type 0} {K : Kind C} (laws : Laws K) {m : Meaning C} (lawful : Lawful K m) (x i : ℕ) (place : x < m.places) (w : Exit) (is : WayAt m x i (Some w)) where
@@ -194,5 +194,5 @@ module _ {C : Type 0} {K : Kind C} (laws : Laws K) {m : Meaning C} (lawful : Law
     -- the queue has room for every place
     pub next_room : length mid ≡ m.places → m.places ≤ length r → (In (entries r) k w.end → ⊥) → k < length r
     next_room long wide absent =
-        let less : k < m.places = room m.places k w.end (entries r) end_place absent swept.queue.apart (λ j h. omega (arith, long, (swept.queue.covered j h).Listed)) in
+        let less : k < m.places = room m.places k w.end (entries r) end_place absent swept.queue.apart (λ j h. omega (arith, long, (swept.queue.covered j h).listed)) in
         omega arith

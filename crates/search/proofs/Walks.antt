@@ -16,7 +16,7 @@ use Rattle.sheet.specs.Sheets.{blank, distance_of, link_of}
 use Rattle.search.specs.Trails.{walk, trail, Led, LinksBack, Walked}
 
 pub read_link : {C : Type 0} (sheet : List (Entry C)) (p : ℕ) (old : Entry C) → p < length sheet → old ≡ get_or sheet p old → (get_or sheet p old).link ≡ link_of sheet p
-read_link sheet p old Listed is = ap (λ e. e.link) (sym is ∙ get_or_read sheet p old Listed is blank)
+read_link sheet p old listed is = ap (λ e. e.link) (sym is ∙ get_or_read sheet p old listed is blank)
 
 module _ (link : ℕ → ℕ) where
   pub walk_suc : (k s : ℕ) → walk link (suc k) s ≡ link (walk link k s)

@@ -57,7 +57,7 @@ fn open_place<S: Site>(
 
 // Whether the target's distance so far is at most the sum of a place.
 fn is_settled<C: Cost>(sheet: &[Entry<C>], target: u16, place: u16) -> bool
-    requires Listed { target < length sheet.now }
+    requires listed { target < length sheet.now }
     requires summable { Summable C.Cost.kind sheet.now place }
     ensures { result ≡ length_le C.Cost.kind (distance_of sheet.now target) (sum_of C.Cost.kind sheet.now place) }
 {

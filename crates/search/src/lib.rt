@@ -1,4 +1,6 @@
 // The search for a cheapest route, over any site.
+#![tactic(auto)]
+
 ghost use Rattle.std.specs.Prelude.{◌≡◌, ◌<◌, ◌≤◌, length, take, drop};
 ghost use Rattle.routes.specs.Estimates.{Sound};
 ghost use Rattle.routes.specs.Sites.{Lawful};

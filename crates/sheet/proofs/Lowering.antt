@@ -8,7 +8,7 @@ use Rattle.cost.proofs.LengthLemmas.{at_most_refl, at_most_trans}
 use Rattle.queue.specs.Heap.{Queue, Stale}
 use Rattle.queue.proofs.Keys.{Falls, stale}
 use Rattle.sheet.specs.declared.Entry.{Entry}
-use Rattle.sheet.specs.Sheets.{blank, estimate_of, with_estimate, Listed, by_estimate, ranks_by, Kept}
+use Rattle.sheet.specs.Sheets.{blank, estimate_of, with_estimate, IsListed, by_estimate, ranks_by, Kept}
 
 module _ {C : Type 0} (sheet : List (Entry C)) (p : ℕ) (e : Entry C) where
   pub put_others : (x : ℕ) → (x ≡ p → ⊥) → get_or (set sheet p e) x blank ≡ get_or sheet x blank
@@ -38,8 +38,8 @@ module _ {C : Type 0} {K : Kind C} (laws : Laws K) (sheet : List (Entry C)) (p :
           let second : AtMost K (estimate_of sheet p) (estimate_of sheet y) = record { holds = h } in
           (at_most_trans laws first second).holds
 
-  pub lower_stale : (q : List ℕ) (n : ℕ) → Queue (Listed sheet) (by_estimate K sheet) q n → Stale (Listed (set sheet p e)) (by_estimate K (set sheet p e)) q n p
-  lower_stale q n = stale (ranks_by laws (estimate_of sheet)) falls (Listed sheet) (Listed (set sheet p e)) q n (λ x _ h. omega (arith, length-set sheet p e))
+  pub lower_stale : (q : List ℕ) (n : ℕ) → Queue (IsListed sheet) (by_estimate K sheet) q n → Stale (IsListed (set sheet p e)) (by_estimate K (set sheet p e)) q n p
+  lower_stale q n = stale (ranks_by laws (estimate_of sheet)) falls (IsListed sheet) (IsListed (set sheet p e)) q n (λ x _ h. omega (arith, length-set sheet p e))
 
 module _ {C : Type 0} where
   pub kept_same : (n : ℕ) (sheet : List (Entry C)) → Kept n sheet sheet

@@ -26,7 +26,7 @@ module _ {C : Type 0} {K : Kind C} (laws : Laws K) (sheet : List (Entry C)) (p f
     new = inl refl;
   }
 
-  module _ (Listed : p < length sheet) (above : length_le K (distance_of sheet p) d ≡ false) where
+  module _ (listed : p < length sheet) (above : length_le K (distance_of sheet p) d ≡ false) where
     new_entry : Entry C
     new_entry = reached (get_or sheet p blank) d from
 
@@ -36,9 +36,9 @@ module _ {C : Type 0} {K : Kind C} (laws : Laws K) (sheet : List (Entry C)) (p f
     pub relaxed_queued : (q r : List ℕ) (n k : ℕ) → Offered (Summable K (set sheet p (reached (get_or sheet p blank) d from))) (by_sum K (set sheet p (reached (get_or sheet p blank) d from))) q r n k p → Relaxed K sheet (set sheet p (reached (get_or sheet p blank) d from)) q r n k from p d
     unfolding new_entry
     relaxed_queued q r n k offered =
-        let at : get_or (set sheet p new_entry) p blank ≡ new_entry = here laws sheet p new_entry Listed refl shorter in
+        let at : get_or (set sheet p new_entry) p blank ≡ new_entry = here laws sheet p new_entry listed refl shorter in
         record {
-          others = λ y away. others laws sheet p new_entry Listed refl shorter y away;
+          others = λ y away. others laws sheet p new_entry listed refl shorter y away;
           estimate = ap (λ (t : Entry C). t.estimate) at;
           mark = ap (λ (t : Entry C). t.mark) at;
           distance = ap (λ (t : Entry C). t.distance) at ∙ sym (cond-false (length_le K (distance_of sheet p) d) (distance_of sheet p) d above);
@@ -55,22 +55,22 @@ module _ {C : Type 0} {K : Kind C} (laws : Laws K) (sheet : List (Entry C)) (p f
       unfolding new_entry
       sums x = ⊎_elim
           (λ (e : x ≡ p). subst (λ z. sum_of K (set sheet p new_entry) z ≡ sum_of K sheet z) (sym e)
-          (ap (λ (t : Entry C). sum K t.distance t.estimate) (here laws sheet p new_entry Listed refl shorter)
+          (ap (λ (t : Entry C). sum K t.distance t.estimate) (here laws sheet p new_entry listed refl shorter)
           ∙ ap (λ (t : Length C). sum K d t) far ∙ sum_infinite laws d ∙ sym (ap (λ (t : Length C). sum K (distance_of sheet p) t) far ∙ sum_infinite laws (distance_of sheet p))))
-          (λ (e : x ≡ p → ⊥). ap (λ (t : Entry C). sum K t.distance t.estimate) (others laws sheet p new_entry Listed refl shorter x e)) (cases_eq x p)
+          (λ (e : x ≡ p → ⊥). ap (λ (t : Entry C). sum K t.distance t.estimate) (others laws sheet p new_entry listed refl shorter x e)) (cases_eq x p)
 
       pub relaxed_far : (q : List ℕ) (n : ℕ) → Queue (Summable K sheet) (by_sum K sheet) q n → Relaxed K sheet (set sheet p (reached (get_or sheet p blank) d from)) q q n n from p d
       unfolding new_entry
       relaxed_far q n queue =
-          let at : get_or (set sheet p new_entry) p blank ≡ new_entry = here laws sheet p new_entry Listed refl shorter in
+          let at : get_or (set sheet p new_entry) p blank ≡ new_entry = here laws sheet p new_entry listed refl shorter in
           record {
-            others = λ y away. others laws sheet p new_entry Listed refl shorter y away;
+            others = λ y away. others laws sheet p new_entry listed refl shorter y away;
             estimate = ap (λ (t : Entry C). t.estimate) at;
             mark = ap (λ (t : Entry C). t.mark) at;
             distance = ap (λ (t : Entry C). t.distance) at ∙ sym (cond-false (length_le K (distance_of sheet p) d) (distance_of sheet p) d above);
             link = inr (ap (λ (t : Entry C). t.distance) at, ap (λ (t : Entry C). t.link) at);
             queue = rekeyed (Summable K sheet) (Summable K (set sheet p new_entry)) (by_sum K sheet) (by_sum K (set sheet p new_entry)) q n
-                (λ x _. still_summable laws sheet p new_entry Listed refl shorter within fine x)
+                (λ x _. still_summable laws sheet p new_entry listed refl shorter within fine x)
                 (λ x y _ _. (λ t. length_le K (sums x t) (sums y t))) queue;
             old = λ y h. h;
             only = λ y h. inl h;

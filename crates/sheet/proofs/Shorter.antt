@@ -11,12 +11,12 @@ use Rattle.queue.specs.Heap.{Queue, Stale}
 use Rattle.queue.proofs.Keys.{Falls, stale}
 
 module _ {C : Type 0} {K : Kind C} (laws : Laws K) where
-  module _ (sheet : List (Entry C)) (p : ℕ) (e : Entry C) (Listed : p < length sheet) (same : e.estimate ≡ estimate_of sheet p) (shorter : length_le K e.distance (distance_of sheet p) ≡ true) where
+  module _ (sheet : List (Entry C)) (p : ℕ) (e : Entry C) (listed : p < length sheet) (same : e.estimate ≡ estimate_of sheet p) (shorter : length_le K e.distance (distance_of sheet p) ≡ true) where
     pub others : (x : ℕ) → (x ≡ p → ⊥) → get_or (set sheet p e) x blank ≡ get_or sheet x blank
     others x away = get_or-set_other sheet p x e blank away
 
     pub here : get_or (set sheet p e) p blank ≡ e
-    here = get_or-set_same sheet p e blank Listed
+    here = get_or-set_same sheet p e blank listed
 
     sum_others : (x : ℕ) → (x ≡ p → ⊥) → sum_of K (set sheet p e) x ≡ sum_of K sheet x
     sum_others x away = ap (λ (t : Entry C). sum K t.distance t.estimate) (others x away)
@@ -43,7 +43,7 @@ module _ {C : Type 0} {K : Kind C} (laws : Laws K) where
     module _ (within : Within K e.distance) (fine : Within K (estimate_of sheet p)) where
       pub summable_here : Summable K (set sheet p e) p
       summable_here = record {
-        Listed = omega (arith, length-set sheet p e);
+        listed = omega (arith, length-set sheet p e);
         distance = subst (λ (t : Entry C). Within K t.distance) (sym here) within;
         estimate = subst (λ (t : Entry C). Within K t.estimate) (sym here) (subst (Within K) (sym same) fine);
       }
@@ -52,7 +52,7 @@ module _ {C : Type 0} {K : Kind C} (laws : Laws K) where
       still_summable x h = ⊎_elim
           (λ (d : x ≡ p). subst (Summable K (set sheet p e)) (sym d) summable_here)
           (λ (d : x ≡ p → ⊥). record {
-            Listed = omega (arith, length-set sheet p e, h.Listed);
+            listed = omega (arith, length-set sheet p e, h.listed);
             distance = subst (λ (t : Entry C). Within K t.distance) (sym (others x d)) h.distance;
             estimate = subst (λ (t : Entry C). Within K t.estimate) (sym (others x d)) h.estimate;
           }) (cases_eq x p)

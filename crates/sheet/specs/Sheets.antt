@@ -30,8 +30,8 @@ module _ {C : Type 0} where
   with_estimate e v = record { estimate = v; distance = e.distance; link = e.link; mark = e.mark }
 
   -- the places that have an entry
-  abbrev pub Listed : List (Entry C) → ℕ → Type 0
-  Listed sheet p = p < length sheet
+  abbrev pub IsListed : List (Entry C) → ℕ → Type 0
+  IsListed sheet p = p < length sheet
 
   -- only the estimates of the first n entries may differ
   pub record Kept (n : ℕ) (before after : List (Entry C)) : Type 0 where
@@ -56,7 +56,7 @@ module _ {C : Type 0} (K : Kind C) (sheet : List (Entry C)) where
 
   -- the places whose sum can be worked out
   pub record Summable (p : ℕ) : Type 0 where
-    pub Listed : p < length sheet
+    pub listed : p < length sheet
     pub distance : Within K (distance_of sheet p)
     pub estimate : Within K (estimate_of sheet p)
 

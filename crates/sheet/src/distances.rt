@@ -38,7 +38,7 @@ fn shorten<C: Cost>(
     distance: Length<C>,
     from: u16,
 ) -> usize
-    requires Listed { place < length sheet.old }
+    requires listed { place < length sheet.old }
     requires within { Within C.Cost.kind distance × Within C.Cost.kind (estimate_of sheet.old place) }
     requires shorter { length_le C.Cost.kind distance (distance_of sheet.old place) ≡ true }
     requires queue { Queue (Summable C.Cost.kind sheet.old) (by_sum C.Cost.kind sheet.old) queue.old len }
@@ -64,7 +64,7 @@ pub fn relax<C: Cost>(
     distance: Length<C>,
     from: u16,
 ) -> usize
-    requires Listed { place < length sheet.old }
+    requires listed { place < length sheet.old }
     requires within { length_le C.Cost.kind (distance_of sheet.old place) distance ≡ false → Within C.Cost.kind distance }
     requires fine { Within C.Cost.kind (estimate_of sheet.old place) }
     requires queue { Queue (Summable C.Cost.kind sheet.old) (by_sum C.Cost.kind sheet.old) queue.old len }

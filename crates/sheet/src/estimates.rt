@@ -2,7 +2,7 @@
 ghost use Rattle.std.specs.Prelude.{◌≡◌, ℕ, ◌<◌, true, false, length, slice_index_or, slice_set};
 ghost use Rattle.cost.specs.Lengths.{length_le};
 ghost use Rattle.queue.specs.Heap.{entries, In, Queue, Offered};
-ghost use Rattle.sheet.specs.Sheets.{blank, estimate_of, with_estimate, Listed, by_estimate};
+ghost use Rattle.sheet.specs.Sheets.{blank, estimate_of, with_estimate, IsListed, by_estimate};
 
 use crate::Entry;
 use cost::{Cost, Length};
@@ -15,7 +15,7 @@ pub struct ByEstimate<'a, C> {
 }
 
 impl<'a, C: Cost> Priority for ByEstimate<'a, C> {
-    ghost covers = { λ s. Listed s.sheet.now };
+    ghost covers = { λ s. IsListed s.sheet.now };
 
     ghost before = { λ s. by_estimate C.Cost.kind s.sheet.now };
 
@@ -35,12 +35,12 @@ pub fn lower_estimate<C: Cost>(
     place: u16,
     estimate: Length<C>,
 ) -> usize
-    requires Listed { place < length sheet.old }
+    requires listed { place < length sheet.old }
     requires lesser { length_le C.Cost.kind estimate (estimate_of sheet.old place) ≡ true }
-    requires queue { Queue (Listed sheet.old) (by_estimate C.Cost.kind sheet.old) queue.old len }
+    requires queue { Queue (IsListed sheet.old) (by_estimate C.Cost.kind sheet.old) queue.old len }
     requires room { (In (entries queue.old) len place → ⊥) → len < length queue.old }
     ensures sheet { sheet.new ≡ slice_set sheet.old place (with_estimate (slice_index_or sheet.old place blank) estimate) }
-    ensures queue { Offered (Listed sheet.new) (by_estimate C.Cost.kind sheet.new) queue.old queue.new len result place }
+    ensures queue { Offered (IsListed sheet.new) (by_estimate C.Cost.kind sheet.new) queue.old queue.new len result place }
 {
     let entry = sheet[place as usize];
     sheet[place as usize] = Entry { estimate, ..entry };

@@ -1,4 +1,6 @@
 // The sheet, its orders of places, and the two ways in which a place gets a lesser length and is queued.
+#![tactic(auto)]
+
 mod distances;
 mod estimates;
 

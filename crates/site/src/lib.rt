@@ -1,4 +1,6 @@
 // A site: the places, ways and segments that carts drive on, known only by the questions it answers.
+#![tactic(auto)]
+
 ghost use Rattle.std.specs.Prelude.{◌≡◌, ◌<◌};
 ghost use Rattle.cost.specs.declared.lengths.Length.TheVariants.{Finite, Infinite};
 ghost use Rattle.routes.specs.Sites.{Meaning, Lawful, allowed};

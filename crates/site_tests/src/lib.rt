@@ -1,4 +1,6 @@
 // Floors, asked as a planner asks them.
+#![tactic(auto)]
+
 use cost::{Length, Milliseconds};
 use site::Site;
 

@@ -1,4 +1,6 @@
 // Reads site files: bytes that the customer lends, from which the customer's tables are filled.
+#![tactic(auto)]
+
 pub mod fault;
 mod floor;
 pub mod loader;

@@ -1,4 +1,6 @@
 // Whether a sheet is sound: the question that is put anew at every call that relies on the estimates.
+#![tactic(auto)]
+
 ghost use Rattle.std.specs.Prelude.{◌≡◌, ℕ, ◌<◌, ◌≤◌, true, false, length};
 ghost use Rattle.cost.specs.Lengths.{Within, length_le, sum};
 ghost use Rattle.routes.specs.Sites.{Lawful};
@@ -26,7 +28,7 @@ fn are_within<C: Cost>(sheet: &[Entry<C>], places: u16) -> bool
 // Whether the estimate of a place is at most the cost of a way out of it plus the estimate at its end.
 fn is_way_consistent<S: Site>(site: &S, sheet: &[Entry<S::Cost>], place: u16, way: Way) -> bool
     requires lawful { Lawful S.Cost.Cost.kind (S.Site.meaning site.now) }
-    requires Listed { (place < length sheet.now) × (way.end < length sheet.now) }
+    requires listed { (place < length sheet.now) × (way.end < length sheet.now) }
     requires segment { way.segment < (S.Site.meaning site.now).segments }
     requires within { Within S.Cost.Cost.kind (estimate_of sheet.now way.end) }
     ensures { result ≡ length_le S.Cost.Cost.kind (estimate_of sheet.now place) (sum S.Cost.Cost.kind ((S.Site.meaning site.now).state way.segment) (estimate_of sheet.now way.end)) }

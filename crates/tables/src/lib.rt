@@ -1,4 +1,6 @@
 // The tables that a customer lends. A site file is read into them and a site stands on them; neither knows the other.
+#![tactic(auto)]
+
 ghost use Rattle.std.specs.Prelude.{◌≡◌, Some};
 ghost use Rattle.tables.specs.Texts.{cell_text, head_line};
 ghost use Rattle.tables.specs.Verdicts.{verdict_number};

@@ -9,7 +9,7 @@ use Rattle.cost.specs.CrossingsFirst.{pair, crossings_first}
 use Rattle.cost.specs.declared.crossings_first.CrossingsFirst.{CrossingsFirst}
 use Rattle.tables.specs.Tapes.{is_lane_state, larger_difference, place_at, lane_at}
 use Rattle.tape.specs.TapeSites.{cost_of, length_of, one_place}
-use Rattle.tape.specs.TapeReadings.{read_place, read_floor, read_state, read_end, read_way, ways_count, entries_count, Listed, leads, read_tape, read_from, read_directory, no_directory}
+use Rattle.tape.specs.TapeReadings.{read_place, read_floor, read_state, read_end, read_way, ways_count, entries_count, listed, leads, read_tape, read_from, read_directory, no_directory}
 use Rattle.routes.specs.Sites.{Way, Lawful, allowed}
 use Rattle.site.specs.Directories.{Indexed}
 use Rattle.tables.specs.declared.tape.Place.{Place}
@@ -46,7 +46,7 @@ unfolding leads
 leads_parts n m ps ls p f ok =
     let l = lane_at ls f in
     let u = place_at ps l.to in
-    let a = and_four (eqb l.from p) (ltb l.to n) (Listed m u ls f) (leb (larger_difference (read_place (place_at ps p)) (read_place u)) (read_floor l).time.count) ok in
+    let a = and_four (eqb l.from p) (ltb l.to n) (listed m u ls f) (leb (larger_difference (read_place (place_at ps p)) (read_place u)) (read_floor l).time.count) ok in
     let b = and_three (leb u.entry_first l.slot) (ltb l.slot (u.entry_first + entries_count m u)) (eqb (lane_at ls l.slot).entering f) a.2 in
     record {
       leaves = eqb-true _ _ a.0;
@@ -67,12 +67,12 @@ leads_from_parts n m ps ls p f k =
 and_rest : (a b c d : Bool) → a ≡ true → b ≡ true → c ≡ true → (a && b && c && d) ≡ d
 and_rest a b c d p q r = grind (arith, nat_tests)
 
--- of a lane that leaves the place and is Listed where it ends, the time decides
-pub leads_by_time : (n m : ℕ) (ps : List Place) (ls : List Lane) (p f : ℕ) → (lane_at ls f).from ≡ p → (lane_at ls f).to < n → Listed m (place_at ps (lane_at ls f).to) ls f ≡ true →
+-- of a lane that leaves the place and is listed where it ends, the time decides
+pub leads_by_time : (n m : ℕ) (ps : List Place) (ls : List Lane) (p f : ℕ) → (lane_at ls f).from ≡ p → (lane_at ls f).to < n → listed m (place_at ps (lane_at ls f).to) ls f ≡ true →
     leads n m ps ls p f ≡ leb (larger_difference (read_place (place_at ps p)) (read_place (place_at ps (lane_at ls f).to))) (read_floor (lane_at ls f)).time.count
 unfolding leads
 leads_by_time n m ps ls p f from to lists =
-    and_rest (eqb (lane_at ls f).from p) (ltb (lane_at ls f).to n) (Listed m (place_at ps (lane_at ls f).to) ls f) _ (eq-eqb _ _ from) (lt-ltb _ _ to) lists
+    and_rest (eqb (lane_at ls f).from p) (ltb (lane_at ls f).to n) (listed m (place_at ps (lane_at ls f).to) ls f) _ (eq-eqb _ _ from) (lt-ltb _ _ to) lists
 
 floor_read_segment : (l : Lane) → crossings_first.segment (read_floor l) ≡ true
 floor_read_segment l = cond_both (crossings_first.segment (cost_of l.floor)) (cost_of l.floor) (pair 0 1) (λ c. crossings_first.segment c ≡ true) (λ e. e) (λ _. refl)

@@ -38,16 +38,16 @@ abbrev pub read_from : ℕ → Lane → ℕ
 read_from n l = cond (nat_lt l.from n) l.from 0
 
 -- lane f of m lanes stands at its slot among the entries of the place where it ends
-abbrev pub Listed : ℕ → Place → List Lane → ℕ → Bool
-Listed m end ls f = nat_le end.entry_first (lane_at ls f).slot && nat_lt (lane_at ls f).slot (end.entry_first + entries_count m end) && (lane_at ls (lane_at ls f).slot).entering == f
+abbrev pub listed : ℕ → Place → List Lane → ℕ → Bool
+listed m end ls f = nat_le end.entry_first (lane_at ls f).slot && nat_lt (lane_at ls f).slot (end.entry_first + entries_count m end) && (lane_at ls (lane_at ls f).slot).entering == f
 
 -- n places and m lanes
 module _ (n m : ℕ) (ps : List Place) (ls : List Lane) where
-  -- lane f can be taken from place p: it leaves p, ends at a place where it is Listed, and gives a millimetre a millisecond
+  -- lane f can be taken from place p: it leaves p, ends at a place where it is listed, and gives a millimetre a millisecond
   unfoldable pub leads : ℕ → ℕ → Bool
   leads p f =
       ((lane_at ls f).from == p) && nat_lt (lane_at ls f).to n
-      && Listed m (place_at ps (lane_at ls f).to) ls f
+      && listed m (place_at ps (lane_at ls f).to) ls f
       && nat_le (larger_difference (read_place (place_at ps p)) (read_place (place_at ps (lane_at ls f).to))) (read_floor (lane_at ls f)).time.count
 
   -- where a way from p over lane f ends: over a lane that cannot be taken it leads back

@@ -1,9 +1,11 @@
 // A tape: places with coordinates and lanes between them, over two tables that the customer lends.
+#![tactic(auto)]
+
 ghost use Rattle.std.specs.Prelude.{◌≡◌, ◌<◌, true};
 ghost use Rattle.cost.specs.CrossingsFirst.{crossings_first};
 ghost use Rattle.tables.specs.Tapes.{place_at, lane_at};
 ghost use Rattle.tape.specs.TapeSites.{cost_of, length_of, lane_cost, SiteOver, SoundTapesAreLawful};
-ghost use Rattle.tape.specs.TapeReadings.{read_place, read_floor, read_state, leads as «leads-from», Listed, read_from, places_of, lanes_of, ways_count, entries_count, has_tape, tape_meaning};
+ghost use Rattle.tape.specs.TapeReadings.{read_place, read_floor, read_state, leads as «leads-from», listed, read_from, places_of, lanes_of, ways_count, entries_count, has_tape, tape_meaning};
 
 use cost::{Cost, CrossingsFirst, Length};
 use rules::{fits, is_place};
@@ -186,7 +188,7 @@ impl<'p, 'l> Tape<'p, 'l> {
         requires tape { has_tape self.now ≡ true }
         requires lane { lane < self.now.lanes_count }
         requires end { end < self.now.places_count }
-        ensures { result ≡ Listed self.now.lanes_count (place_at (places_of self.now) end) (lanes_of self.now) lane }
+        ensures { result ≡ listed self.now.lanes_count (place_at (places_of self.now) end) (lanes_of self.now) lane }
     {
         let place = self.place(end);
         let slot = self.lane(lane).slot;

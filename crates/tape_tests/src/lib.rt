@@ -1,4 +1,6 @@
 // Tapes over small tables, asked from outside.
+#![tactic(auto)]
+
 use tables::{Lane, LaneCost, LaneState, Place, TapeHead};
 use tape::verdict;
 

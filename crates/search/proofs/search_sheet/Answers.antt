@@ -38,9 +38,9 @@ raise-requires g c =
     let target = c.args.target in
     let long : length sheet ≡ m.places = c.explore-opened.auto.sheet ∙ c.clear.auto.sheet ∙ c.requires.sheet in
     let same = clear_estimates c.args.sheet.now c.clear.new.sheet c.clear.ensures in
-    let Listed : target < length sheet = omega (arith, c.requires.named.1) in
+    let listed : target < length sheet = omega (arith, c.requires.named.1) in
     record {
-      answer = subst (Within K) (sym (read_distance sheet target c.index-sheet-target.result Listed c.index-sheet-target.is)) (answer_within laws g.met.Cost.PositiveCost.positive c.requires.lawful c.args.start target c.requires.named.0 c.requires.named.1 c.args.sheet.now (estimate_of c.clear.new.sheet) same sheet sheet c.explore-opened.result c.explore-opened.ensures long);
+      answer = subst (Within K) (sym (read_distance sheet target c.index-sheet-target.result listed c.index-sheet-target.is)) (answer_within laws g.met.Cost.PositiveCost.positive c.requires.lawful c.args.start target c.requires.named.0 c.requires.named.1 c.args.sheet.now (estimate_of c.clear.new.sheet) same sheet sheet c.explore-opened.result c.explore-opened.ensures long);
       marked = marked_within laws g.met.Cost.PositiveCost.positive c.requires.lawful c.args.start target c.requires.named.0 c.requires.named.1 c.args.sheet.now (estimate_of c.clear.new.sheet) same sheet sheet c.explore-opened.result c.explore-opened.ensures long;
     }
 
@@ -53,6 +53,6 @@ returns g c =
     let old = c.index-sheet-target.result in
     let long : length sheet ≡ m.places = c.explore-opened.auto.sheet ∙ c.clear.auto.sheet ∙ c.requires.sheet in
     let same = clear_estimates c.args.sheet.now c.clear.new.sheet c.clear.ensures in
-    let Listed : target < length sheet = omega (arith, c.requires.named.1) in
+    let listed : target < length sheet = omega (arith, c.requires.named.1) in
     searched_all laws g.met.Cost.PositiveCost.positive c.requires.lawful c.args.start target c.requires.named.0 c.requires.named.1 c.args.sheet.now (estimate_of c.clear.new.sheet) same sheet c.raise.new.sheet c.explore-opened.result c.explore-opened.ensures long
-    (get_or sheet target old).distance (read_distance sheet target old Listed c.index-sheet-target.is) c.raise.ensures c.args.list.now c.tell-route-count.new.list c.tell-route-count.result c.tell-route-count.ensures
+    (get_or sheet target old).distance (read_distance sheet target old listed c.index-sheet-target.is) c.raise.ensures c.args.list.now c.tell-route-count.new.list c.tell-route-count.result c.tell-route-count.ensures

@@ -12,7 +12,7 @@ is-way-consistent-requires g c =
     let end = c.requires.lawful.way_place s w.end w.segment way in
     record {
       lawful = c.requires.lawful;
-      Listed = (omega (arith, c.requires.room, c.requires.place), omega (arith, c.requires.room));
+      listed = (omega (arith, c.requires.room, c.requires.place), omega (arith, c.requires.room));
       segment = c.requires.lawful.way_segment s w.end w.segment way;
       within = c.requires.within w.end end;
     }

@@ -21,13 +21,13 @@ loop-place-preserved g c =
     let target = c.args.target in
     let before = c.args.sheet.now in
     let sheet = c.loop-place.sheet in
-    let Listed : place < length sheet = omega (arith, c.requires.room, c.places-places.ensures.count, c.loop-place.auto.sheet) in
+    let listed : place < length sheet = omega (arith, c.requires.room, c.places-places.ensures.count, c.loop-place.auto.sheet) in
     let got : c.hint.result ≡ Some (m.hint place target) = c.hint.ensures ∙ hint_there m place target (omega (arith, c.places-places.ensures.count)) c.requires.target in
     elim c.match-hint.branch [
       | in-Some w ↦
           let v : w.in-Some.hint ≡ m.hint place target = cc in
           subst (Filled (opened K m target) (place + 1) before) (sym w.sheet-is)
-          (filled_more (opened K m target) place before sheet c.loop-place.invariant Listed w.index-sheet-place.result (Finite w.in-Some.hint) (ap Finite v))
+          (filled_more (opened K m target) place before sheet c.loop-place.invariant listed w.index-sheet-place.result (Finite w.in-Some.hint) (ap Finite v))
       | in-default w ↦ absurd (w.in-default.not-Some _ got)
     ]
 

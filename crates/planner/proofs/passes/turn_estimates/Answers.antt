@@ -31,8 +31,8 @@ minus-requires g c =
     let before = c.args.sheet.now in
     let sheet = c.loop-place.sheet in
     let old = c.index-sheet-place.result in
-    let Listed : place < length sheet = omega (arith, c.requires.room, c.places-places.ensures.count, c.loop-place.auto.sheet) in
-    let ahead = filled_ahead (retargeted K m n (estimate_of before)) place before sheet c.loop-place.invariant Listed old in
+    let listed : place < length sheet = omega (arith, c.requires.room, c.places-places.ensures.count, c.loop-place.auto.sheet) in
+    let ahead = filled_ahead (retargeted K m n (estimate_of before)) place before sheet c.loop-place.invariant listed old in
     let here = ap (λ t. t.estimate) (c.index-sheet-place.is ∙ ahead) in
     let there = ap (λ t. t.estimate) (get_or_default before n c.index-sheet-target.result blank (omega (arith, c.requires.room, c.requires.target))) in
     (subst (Within K) (sym here) (c.requires.within place (omega (arith, c.places-places.ensures.count))), subst (Within K) (sym there) (c.requires.within n c.requires.target))
@@ -46,7 +46,7 @@ loop-place-preserved g c =
     let before = c.args.sheet.now in
     let sheet = c.loop-place.sheet in
     let e = retargeted K m n (estimate_of before) in
-    let Listed : place < length sheet = omega (arith, c.requires.room, c.places-places.ensures.count, c.loop-place.auto.sheet) in
+    let listed : place < length sheet = omega (arith, c.requires.room, c.places-places.ensures.count, c.loop-place.auto.sheet) in
     let got : c.hint.result ≡ Some (m.hint place n) = c.hint.ensures ∙ hint_there m place n (omega (arith, c.places-places.ensures.count)) c.requires.target in
     let there = ap (λ t. t.estimate) (get_or_default before n c.index-sheet-target.result blank (omega (arith, c.requires.room, c.requires.target))) in
     elim c.match-hint.branch [
@@ -54,11 +54,11 @@ loop-place-preserved g c =
           let old = w.index-sheet-place.result in
           let v = w.max-estimate.result in
           let hint : w.in-Some.hint ≡ m.hint place n = cc in
-          let ahead = filled_ahead e place before sheet c.loop-place.invariant Listed old in
+          let ahead = filled_ahead e place before sheet c.loop-place.invariant listed old in
           let here = ap (λ t. t.estimate) (w.index-sheet-place.is ∙ ahead) in
           let is = turned K m n (estimate_of before) place w.in-Some.hint old.estimate (get_or before n c.index-sheet-target.result).estimate w.minus.result v hint here there w.minus.ensures w.max-estimate.ensures in
           subst (Filled e (place + 1) before) (sym (w.sheet-is ∙ ap (λ t. set sheet place (with_estimate t v)) w.index-sheet-place.is))
-          (filled_more e place before sheet c.loop-place.invariant Listed old v is)
+          (filled_more e place before sheet c.loop-place.invariant listed old v is)
       | in-default w ↦ absurd (w.in-default.not-Some _ got)
     ]
 

@@ -37,7 +37,7 @@ relax-len-requires g c =
     let same = c.loop-way.auto.sheet in
     let wide = c.loop-way.auto.queue in
     record {
-      Listed = omega (arith, c.requires.ready.long);
+      listed = omega (arith, c.requires.ready.long);
       within = subst (λ d. length_le K (distance_of mid w.end) d ≡ false → Within K d) (sym offered) (next_within laws c.requires.lawful x c.loop-way.index c.requires.place w c.in-Some.ensures sheet mid c.args.queue.now c.loop-way.queue c.args.len c.loop-way.len swept c.requires.improves);
       fine = next_estimate laws c.requires.lawful x c.loop-way.index c.requires.place w c.in-Some.ensures sheet mid c.args.queue.now c.loop-way.queue c.args.len c.loop-way.len swept c.requires.ready.estimates;
       queue = swept.queue;

@@ -13,7 +13,7 @@ pub relax-len-requires : goal.relax-len-requires
 relax-len-requires g c =
     let K = g.Cost.Cost.kind in
     record {
-      Listed = omega (arith, c.requires.memory.0, c.requires.named.0);
+      listed = omega (arith, c.requires.memory.0, c.requires.named.0);
       within = λ _. subst (Within K) (sym c.zero.ensures) (within_origin g.met.Cost.Cost.lawful);
       fine = c.requires.sound.within c.args.start c.requires.named.0;
       queue = empty (Summable K c.args.sheet.now) (by_sum K c.args.sheet.now) c.args.queue.now;

@@ -36,9 +36,9 @@ loop-left-preserved g c =
     let some = c.loop-left-test.true in
     let fits = c.loop-left.invariant.0 in
     let is = c.loop-left.invariant.1 in
-    let Listed : c.loop-left.place < length sheet = subst (λ p. p < length sheet) (sym is) (c.requires.places (n - left) (omega arith)) in (
+    let listed : c.loop-left.place < length sheet = subst (λ p. p < length sheet) (sym is) (c.requires.places (n - left) (omega arith)) in (
       (omega arith),
-      read_link sheet c.loop-left.place c.index-sheet-place.result Listed c.index-sheet-place.is ∙ walk_back link target n left some fits c.loop-left.place is,
+      read_link sheet c.loop-left.place c.index-sheet-place.result listed c.index-sheet-place.is ∙ walk_back link target n left some fits c.loop-left.place is,
       write_back link target n left some fits c.loop-left.list (drop n c.args.list.now) c.loop-left.place (omega (arith, c.requires.room, c.loop-left.auto.list)) is c.loop-left.invariant.2,
     )
 

@@ -12,7 +12,7 @@ returns-then-is-at-most g c =
     let sheet = c.args.sheet.now in
     let p = c.args.place in
     let old = c.index-sheet-place.result in
-    let is = get_or_read sheet p old c.requires.Listed c.index-sheet-place.is blank in
+    let is = get_or_read sheet p old c.requires.listed c.index-sheet-place.is blank in
     let low : length_le g.C.Cost.kind (distance_of sheet p) c.args.distance ≡ true = sym (ap (λ t. length_le g.C.Cost.kind t.distance c.args.distance) is) ∙ sym c.is-at-most.ensures ∙ c.if-is-at-most.true in
     relaxed_none laws sheet p c.args.from c.args.distance c.args.queue.now c.args.len low c.requires.queue
 
@@ -22,12 +22,12 @@ shorten-requires g c =
     let sheet = c.args.sheet.now in
     let p = c.args.place in
     let old = c.index-sheet-place.result in
-    let is = get_or_read sheet p old c.requires.Listed c.index-sheet-place.is blank in
+    let is = get_or_read sheet p old c.requires.listed c.index-sheet-place.is blank in
     let above : length_le g.C.Cost.kind (distance_of sheet p) c.args.distance ≡ false = sym (ap (λ t. length_le g.C.Cost.kind t.distance c.args.distance) is) ∙ sym c.is-at-most.ensures ∙ c.if-is-at-most.false in
     record {
-      Listed = c.requires.Listed;
+      listed = c.requires.listed;
       within = (c.requires.within above, c.requires.fine);
-      shorter = shorter laws sheet p c.args.from c.args.distance c.requires.Listed above;
+      shorter = shorter laws sheet p c.args.from c.args.distance c.requires.listed above;
       queue = c.requires.queue;
       room = c.requires.room;
     }
@@ -40,14 +40,14 @@ returns-in-Finite g c =
     let p = c.args.place in
     let d = c.args.distance in
     let old = c.index-sheet-place.result in
-    let is = get_or_read sheet p old c.requires.Listed c.index-sheet-place.is blank in
+    let is = get_or_read sheet p old c.requires.listed c.index-sheet-place.is blank in
     let above : length_le K (distance_of sheet p) d ≡ false = sym (ap (λ t. length_le K t.distance d) is) ∙ sym c.is-at-most.ensures ∙ c.if-is-at-most.false in
     let q = c.args.queue.now in
     let r = c.shorten.new.queue in
     let n = c.args.len in
     let k = c.shorten.result in
     let offered = subst (λ t. Offered (Summable K t) (by_sum K t) q r n k p) c.shorten.ensures.sheet c.shorten.ensures.queue in
-    subst (λ t. Relaxed K sheet t q r n k c.args.from p d) (sym c.shorten.ensures.sheet) (relaxed_queued laws sheet p c.args.from d c.requires.Listed above q r n k offered)
+    subst (λ t. Relaxed K sheet t q r n k c.args.from p d) (sym c.shorten.ensures.sheet) (relaxed_queued laws sheet p c.args.from d c.requires.listed above q r n k offered)
 
 pub returns-in-Infinite : goal.returns-in-Infinite
 returns-in-Infinite g c =
@@ -58,9 +58,9 @@ returns-in-Infinite g c =
     let d = c.args.distance in
     let from = c.args.from in
     let old = c.index-sheet-place.result in
-    let is = get_or_read sheet p old c.requires.Listed c.index-sheet-place.is blank in
+    let is = get_or_read sheet p old c.requires.listed c.index-sheet-place.is blank in
     let above : length_le K (distance_of sheet p) d ≡ false = sym (ap (λ t. length_le K t.distance d) is) ∙ sym c.is-at-most.ensures ∙ c.if-is-at-most.false in
     let far = ap (λ t. t.estimate) (sym is) ∙ c.in-Infinite.is in
     let q = c.args.queue.now in
     let n = c.args.len in
-    subst (λ t. Relaxed K sheet (set sheet p (reached t d from)) q q n n from p d) (sym is) (relaxed_far laws sheet p from d c.requires.Listed above far (c.requires.within above) c.requires.fine q n c.requires.queue)
+    subst (λ t. Relaxed K sheet (set sheet p (reached t d from)) q q n n from p d) (sym is) (relaxed_far laws sheet p from d c.requires.listed above far (c.requires.within above) c.requires.fine q n c.requires.queue)

@@ -11,10 +11,10 @@ offer-requires g c =
     let p = c.args.place in
     let old = c.index-sheet-place.result in
     let e = reached old c.args.distance c.args.from in
-    let same : old.estimate ≡ estimate_of sheet p = ap (λ t. t.estimate) (get_or_read sheet p old c.requires.Listed c.index-sheet-place.is blank) in
+    let same : old.estimate ≡ estimate_of sheet p = ap (λ t. t.estimate) (get_or_read sheet p old c.requires.listed c.index-sheet-place.is blank) in
     record {
       ranks = ranks_by laws (sum_of g.C.Cost.kind (set sheet p e));
-      stale = shorter_stale laws sheet p e c.requires.Listed same c.requires.shorter c.requires.within.0 c.requires.within.1 c.args.queue.now c.args.len c.requires.queue;
+      stale = shorter_stale laws sheet p e c.requires.listed same c.requires.shorter c.requires.within.0 c.requires.within.1 c.args.queue.now c.args.len c.requires.queue;
       room = c.requires.room;
-      covered = summable_here laws sheet p e c.requires.Listed same c.requires.shorter c.requires.within.0 c.requires.within.1;
+      covered = summable_here laws sheet p e c.requires.listed same c.requires.shorter c.requires.within.0 c.requires.within.1;
     }

@@ -10,7 +10,7 @@ offer-requires g c =
     let e = with_estimate c.index-sheet-place.result c.args.estimate in
     record {
       ranks = ranks_by g.met.C.Cost.lawful (estimate_of (set sheet p e));
-      stale = lower_stale g.met.C.Cost.lawful sheet p e c.requires.Listed c.requires.lesser c.args.queue.now c.args.len c.requires.queue;
+      stale = lower_stale g.met.C.Cost.lawful sheet p e c.requires.listed c.requires.lesser c.args.queue.now c.args.len c.requires.queue;
       room = c.requires.room;
-      covered = omega (arith, length-set sheet p e, c.requires.Listed);
+      covered = omega (arith, length-set sheet p e, c.requires.listed);
     }

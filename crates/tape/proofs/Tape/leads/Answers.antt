@@ -1,6 +1,6 @@
 use Rattle.std.proofs.Common.{◌≡◌, ◌<◌, true, leb, sym, ap, ◌∙◌, subst, rules}
 use Rattle.tables.specs.Tapes.{is_place, larger_difference, place_at}
-use Rattle.tape.specs.TapeReadings.{leads, read_place, read_floor, Listed, places_of, lanes_of}
+use Rattle.tape.specs.TapeReadings.{leads, read_place, read_floor, listed, places_of, lanes_of}
 use Rattle.tables.specs.declared.tape.Lane.{Lane}
 use Rattle.tape.proofs.TapeLaws.{leads_by_time}
 use Rattle.tape.proofs.Distances.{read_is_place}
@@ -34,11 +34,11 @@ returns c =
     let end = c.place-read-end.ensures ∙ ap read_place (c.place-2.ensures ∙ ap (λ (l : Lane). place_at (places_of s) l.to) e) in
     let time = c.floor-read.ensures ∙ ap read_floor e in
     let far = c.larger-difference.ensures ∙ (λ i. larger_difference (start i) (end i)) in
-    let lists : true ≡ Listed s.lanes_count (place_at (places_of s) c.lane-lane.result.to) (lanes_of s) c.args.segment = c.if-not-is-listed.ensures in
+    let lists : true ≡ listed s.lanes_count (place_at (places_of s) c.lane-lane.result.to) (lanes_of s) c.args.segment = c.if-not-is-listed.ensures in
     let leaves : c.lane-lane.result.from ≡ c.args.place = c.if-lane-place.false in
     let ends : c.lane-lane.result.to < s.places_count = c.if-self-lane.false in
     (λ i. leb (far i) (time i).time.count)
     ∙ sym (leads_by_time s.places_count s.lanes_count (places_of s) (lanes_of s) c.args.place c.args.segment
     (ap (λ (l : Lane). l.from) (sym e) ∙ leaves)
     (subst (λ (l : Lane). l.to < s.places_count) e ends)
-    (subst (λ (l : Lane). Listed s.lanes_count (place_at (places_of s) l.to) (lanes_of s) c.args.segment ≡ true) e (sym lists)))
+    (subst (λ (l : Lane). listed s.lanes_count (place_at (places_of s) l.to) (lanes_of s) c.args.segment ≡ true) e (sym lists)))
