@@ -6,14 +6,14 @@ use Rattle.sheet.specs.Sheets.{blank, estimate_of, distance_of, by_sum, Summable
 use Rattle.sheet.proofs.Relaxing.{relaxed_none, relaxed_queued, relaxed_far, shorter}
 use Rattle.sheet.proofs.distances.relax.Goals as goal
 
-pub returns-then-is-at-most : goal.returns-then-is-at-most
-returns-then-is-at-most g c =
+pub returns-then-is_at_most : goal.returns-then-is_at_most
+returns-then-is_at_most g c =
     let laws = g.met.C.Cost.lawful in
     let sheet = c.args.sheet.now in
     let p = c.args.place in
     let old = c.index-sheet-place.result in
     let is = get_or_read sheet p old c.requires.listed c.index-sheet-place.is blank in
-    let low : length_le g.C.Cost.kind (distance_of sheet p) c.args.distance ≡ true = sym (ap (λ t. length_le g.C.Cost.kind t.distance c.args.distance) is) ∙ sym c.is-at-most.ensures ∙ c.if-is-at-most.true in
+    let low : length_le g.C.Cost.kind (distance_of sheet p) c.args.distance ≡ true = sym (ap (λ t. length_le g.C.Cost.kind t.distance c.args.distance) is) ∙ sym c.is_at_most.ensures ∙ c.if-is_at_most.true in
     relaxed_none laws sheet p c.args.from c.args.distance c.args.queue.now c.args.len low c.requires.queue
 
 pub shorten-requires : goal.shorten-requires
@@ -23,7 +23,7 @@ shorten-requires g c =
     let p = c.args.place in
     let old = c.index-sheet-place.result in
     let is = get_or_read sheet p old c.requires.listed c.index-sheet-place.is blank in
-    let above : length_le g.C.Cost.kind (distance_of sheet p) c.args.distance ≡ false = sym (ap (λ t. length_le g.C.Cost.kind t.distance c.args.distance) is) ∙ sym c.is-at-most.ensures ∙ c.if-is-at-most.false in
+    let above : length_le g.C.Cost.kind (distance_of sheet p) c.args.distance ≡ false = sym (ap (λ t. length_le g.C.Cost.kind t.distance c.args.distance) is) ∙ sym c.is_at_most.ensures ∙ c.if-is_at_most.false in
     record {
       listed = c.requires.listed;
       within = (c.requires.within above, c.requires.fine);
@@ -41,7 +41,7 @@ returns-in-Finite g c =
     let d = c.args.distance in
     let old = c.index-sheet-place.result in
     let is = get_or_read sheet p old c.requires.listed c.index-sheet-place.is blank in
-    let above : length_le K (distance_of sheet p) d ≡ false = sym (ap (λ t. length_le K t.distance d) is) ∙ sym c.is-at-most.ensures ∙ c.if-is-at-most.false in
+    let above : length_le K (distance_of sheet p) d ≡ false = sym (ap (λ t. length_le K t.distance d) is) ∙ sym c.is_at_most.ensures ∙ c.if-is_at_most.false in
     let q = c.args.queue.now in
     let r = c.shorten.new.queue in
     let n = c.args.len in
@@ -59,7 +59,7 @@ returns-in-Infinite g c =
     let from = c.args.from in
     let old = c.index-sheet-place.result in
     let is = get_or_read sheet p old c.requires.listed c.index-sheet-place.is blank in
-    let above : length_le K (distance_of sheet p) d ≡ false = sym (ap (λ t. length_le K t.distance d) is) ∙ sym c.is-at-most.ensures ∙ c.if-is-at-most.false in
+    let above : length_le K (distance_of sheet p) d ≡ false = sym (ap (λ t. length_le K t.distance d) is) ∙ sym c.is_at_most.ensures ∙ c.if-is_at_most.false in
     let far = ap (λ t. t.estimate) (sym is) ∙ c.in-Infinite.is in
     let q = c.args.queue.now in
     let n = c.args.len in

@@ -9,8 +9,8 @@ use Rattle.sitefile.specs.Sites.{empty, unknown}
 use Rattle.sitefile.proofs.SiteFiles.{load_faulty, floor_loads, floor_faults, tape_loads, tape_faults}
 use Rattle.sitefile.proofs.loader.load.Goals as goal
 
-pub returns-in-default : goal.returns-in-default
-returns-in-default c =
+pub returns-in_default : goal.returns-in_default
+returns-in_default c =
     let none : length c.args.file.now ≡ 0 = search rules in
     load_faulty (empty (nil_from_length _ none) refl)
 
@@ -18,25 +18,25 @@ pub returns-in-err-head : goal.returns-in-err-head
 returns-in-err-head c =
     let some : 0 < length c.args.file.now = search rules in
     let kind : get_or c.args.file.now 0 0 ≡ floor_kind = search rules in
-    let reader = c.after-kind.ensures in
-    let whole : c.args.file.now ≡ floor_kind ∷ ahead c.after-kind.result = first_rest c.args.file.now 0 some ∙ (λ i. kind i ∷ sym reader.ahead i) in
-    let p = err_from_is_err_and c.from-residual.result c.from-residual.ensures.1 in
+    let reader = c.after_kind.ensures in
+    let whole : c.args.file.now ≡ floor_kind ∷ ahead c.after_kind.result = first_rest c.args.file.now 0 some ∙ (λ i. kind i ∷ sym reader.ahead i) in
+    let p = err_from_is_err_and c.from_residual.result c.from_residual.ensures.1 in
     rw (p.1, p.2) (floor_faults c.args.places.now c.args.lanes.now whole (omega (arith, ap length whole, reader.at)) c.in-err-head.ensures)
 
 pub returns-in-ok-head : goal.returns-in-ok-head
 returns-in-ok-head c =
     let some : 0 < length c.args.file.now = search rules in
     let kind : get_or c.args.file.now 0 0 ≡ floor_kind = search rules in
-    let reader = c.after-kind.ensures in
-    let whole : c.args.file.now ≡ floor_kind ∷ ahead c.after-kind.result = first_rest c.args.file.now 0 some ∙ (λ i. kind i ∷ sym reader.ahead i) in
+    let reader = c.after_kind.ensures in
+    let whole : c.args.file.now ≡ floor_kind ∷ ahead c.after_kind.result = first_rest c.args.file.now 0 some ∙ (λ i. kind i ∷ sym reader.ahead i) in
     floor_loads 0 c.args.places.now c.args.lanes.now whole c.in-ok-head.ensures
 
 pub returns-in-err-head-2 : goal.returns-in-err-head-2
 returns-in-err-head-2 c =
     let some : 0 < length c.args.file.now = search rules in
     let kind : get_or c.args.file.now 0 0 ≡ tape_kind = search rules in
-    let reader = c.after-kind-in-84.ensures in
-    let whole : c.args.file.now ≡ tape_kind ∷ ahead c.after-kind-in-84.result = first_rest c.args.file.now 0 some ∙ (λ i. kind i ∷ sym reader.ahead i) in
+    let reader = c.after_kind-in-84.ensures in
+    let whole : c.args.file.now ≡ tape_kind ∷ ahead c.after_kind-in-84.result = first_rest c.args.file.now 0 some ∙ (λ i. kind i ∷ sym reader.ahead i) in
     let p = err_from_is_err_and c.from-residual-in-err-head-2.result c.from-residual-in-err-head-2.ensures.1 in
     rw (p.1, p.2) (tape_faults c.args.cells.now whole (omega (arith, ap length whole, reader.at)) c.in-err-head-2.ensures)
 
@@ -44,11 +44,11 @@ pub returns-in-ok-head-2 : goal.returns-in-ok-head-2
 returns-in-ok-head-2 c =
     let some : 0 < length c.args.file.now = search rules in
     let kind : get_or c.args.file.now 0 0 ≡ tape_kind = search rules in
-    let reader = c.after-kind-in-84.ensures in
-    let whole : c.args.file.now ≡ tape_kind ∷ ahead c.after-kind-in-84.result = first_rest c.args.file.now 0 some ∙ (λ i. kind i ∷ sym reader.ahead i) in
+    let reader = c.after_kind-in-84.ensures in
+    let whole : c.args.file.now ≡ tape_kind ∷ ahead c.after_kind-in-84.result = first_rest c.args.file.now 0 some ∙ (λ i. kind i ∷ sym reader.ahead i) in
     tape_loads 0 c.args.cells.now whole c.in-ok-head-2.ensures
 
-pub returns-in-default-kind : goal.returns-in-default-kind
-returns-in-default-kind c =
+pub returns-in_default-kind : goal.returns-in_default-kind
+returns-in_default-kind c =
     let some : 0 < length c.args.file.now = search rules in
     load_faulty (unknown _ _ (first_rest c.args.file.now 0 some) (search rules) (search rules) refl)

@@ -13,32 +13,32 @@ use Rattle.sitefile.proofs.Runs.{after_many, no_second_fault}
 use Rattle.sitefile.proofs.TapeFiles.{after_counts, no_lane_fault, tape_loaded}
 use Rattle.sitefile.proofs.tape.load_tape.Goals as goal
 
-pub returns-in-err-offsets : goal.returns-in-err-offsets
-returns-in-err-offsets c =
-    let head = c.in-ok-head.ensures in
-    let told = c.in-err-offsets.ensures in
-    let p = err_from_is_err_and c.from-residual-in-err-offsets.result c.from-residual-in-err-offsets.ensures.1 in
-    rw (p.1, p.2) (after_counts head.read (fault_at head.size (told (λ ps. many (lanes c.in-ok-head.head.places ps) c.in-ok-head.head.lanes [] (λ _. ended)))), refl, refl)
+pub returns-in_err-offsets : goal.returns-in_err-offsets
+returns-in_err-offsets c =
+    let head = c.in_ok-head.ensures in
+    let told = c.in_err-offsets.ensures in
+    let p = err_from_is_err_and c.from_residual-in_err-offsets.result c.from_residual-in_err-offsets.ensures.1 in
+    rw (p.1, p.2) (after_counts head.read (fault_at head.size (told (λ ps. many (lanes c.in_ok-head.head.places ps) c.in_ok-head.head.lanes [] (λ _. ended)))), refl, refl)
 
-pub returns-in-err-check-lanes : goal.returns-in-err-check-lanes
-returns-in-err-check-lanes c =
-    let head = c.in-ok-head.ensures in
-    let walked = c.in-ok-offsets.ensures in
-    let n = c.in-ok-head.head.places in
-    let m = c.in-ok-head.head.lanes in
-    let told = c.in-err-check-lanes.ensures walked.walk.values _ (places_at walked) walked.walk.counted in
-    let p = err_from_is_err_and c.from-residual-in-err-check-lanes.result c.from-residual-in-err-check-lanes.ensures.1 in
+pub returns-in_err-check_lanes : goal.returns-in_err-check_lanes
+returns-in_err-check_lanes c =
+    let head = c.in_ok-head.ensures in
+    let walked = c.in_ok-offsets.ensures in
+    let n = c.in_ok-head.head.places in
+    let m = c.in_ok-head.head.lanes in
+    let told = c.in_err-check_lanes.ensures walked.walk.values _ (places_at walked) walked.walk.counted in
+    let p = err_from_is_err_and c.from_residual-in_err-check_lanes.result c.from_residual-in_err-check_lanes.ensures.1 in
     rw (p.1, p.2) (after_counts head.read (fault_at head.size (after_many places places_laws walked.walk (λ ps. many (lanes n ps) m [] (λ _. ended)) (told (λ _. ended)))), refl, refl)
 
-pub returns-in-err-end : goal.returns-in-err-end
-returns-in-err-end c =
-    let head = c.in-ok-head.ensures in
-    let walked = c.in-ok-offsets.ensures in
-    let n = c.in-ok-head.head.places in
-    let m = c.in-ok-head.head.lanes in
-    let ls = c.in-ok-check-lanes.ensures walked.walk.values _ (places_at walked) walked.walk.counted in
-    let told = c.in-err-end.ensures in
-    let p = err_from_is_err_and c.from-residual-in-err-end.result c.from-residual-in-err-end.ensures.1 in
+pub returns-in_err-end : goal.returns-in_err-end
+returns-in_err-end c =
+    let head = c.in_ok-head.ensures in
+    let walked = c.in_ok-offsets.ensures in
+    let n = c.in_ok-head.head.places in
+    let m = c.in_ok-head.head.lanes in
+    let ls = c.in_ok-check_lanes.ensures walked.walk.values _ (places_at walked) walked.walk.counted in
+    let told = c.in_err-end.ensures in
+    let p = err_from_is_err_and c.from_residual-in_err-end.result c.from_residual-in_err-end.ensures.1 in
     rw (p.1, p.2) (
       after_counts head.read (fault_at head.size (after_many places places_laws walked.walk (λ ps. many (lanes n ps) m [] (λ _. ended))
           (after_many (lanes n walked.walk.values) (lanes_laws n walked.walk.values (at_most 1 most_places n head.read.places_ranged)) ls (λ _. ended) told))),
@@ -46,33 +46,33 @@ returns-in-err-end c =
       refl,
     )
 
-pub returns-in-err-fill-places : goal.returns-in-err-fill-places
-returns-in-err-fill-places c =
-    let head = c.in-ok-head.ensures in
-    let walked = c.in-ok-offsets.ensures in
-    let told = c.in-err-fill-places.ensures in
+pub returns-in_err-fill_places : goal.returns-in_err-fill_places
+returns-in_err-fill_places c =
+    let head = c.in_ok-head.ensures in
+    let walked = c.in_ok-offsets.ensures in
+    let told = c.in_err-fill_places.ensures in
     let room = and_parts _ _ head.read.roomy in
-    absurd (no_second_fault places places_laws (length (take c.in-ok-head.head.places c.args.places.now)) (first_entries _ c.args.places.now room.0) walked.walk told.read)
+    absurd (no_second_fault places places_laws (length (take c.in_ok-head.head.places c.args.places.now)) (first_entries _ c.args.places.now room.0) walked.walk told.read)
 
-pub returns-in-err-fill-lanes : goal.returns-in-err-fill-lanes
-returns-in-err-fill-lanes c =
-    let head = c.in-ok-head.ensures in
-    let walked = c.in-ok-offsets.ensures in
-    let n = c.in-ok-head.head.places in
-    let ls = c.in-ok-check-lanes.ensures walked.walk.values _ (places_at walked) walked.walk.counted in
-    let filled = c.in-ok-fill-places.ensures in
-    let told = c.in-err-fill-lanes.ensures in
+pub returns-in_err-fill_lanes : goal.returns-in_err-fill_lanes
+returns-in_err-fill_lanes c =
+    let head = c.in_ok-head.ensures in
+    let walked = c.in_ok-offsets.ensures in
+    let n = c.in_ok-head.head.places in
+    let ls = c.in_ok-check_lanes.ensures walked.walk.values _ (places_at walked) walked.walk.counted in
+    let filled = c.in_ok-fill_places.ensures in
+    let told = c.in_err-fill_lanes.ensures in
     let room = and_parts _ _ head.read.roomy in
-    absurd (no_lane_fault n walked.walk.values c.fill-places.new.self (length (take c.in-ok-head.head.lanes c.args.lanes.now)) (at_most 1 most_places n head.read.places_ranged) walked.walk ls filled.read
-    (c.fill-places.auto.table ∙ first_entries _ c.args.places.now room.0) (filled.size ∙ sym walked.walk.same_size) (first_entries _ c.args.lanes.now room.1) told)
+    absurd (no_lane_fault n walked.walk.values c.fill_places.new.self (length (take c.in_ok-head.head.lanes c.args.lanes.now)) (at_most 1 most_places n head.read.places_ranged) walked.walk ls filled.read
+    (c.fill_places.auto.table ∙ first_entries _ c.args.places.now room.0) (filled.size ∙ sym walked.walk.same_size) (first_entries _ c.args.lanes.now room.1) told)
 
 pub returns : goal.returns
 returns c =
-    let head = c.in-ok-head.ensures in
-    let walked = c.in-ok-offsets.ensures in
-    let ls = c.in-ok-check-lanes.ensures walked.walk.values _ (places_at walked) walked.walk.counted in
-    let none = c.in-ok-end.ensures in
-    let filled = c.in-ok-fill-places.ensures in
-    let lanes_filled = c.in-ok-fill-lanes.ensures in
+    let head = c.in_ok-head.ensures in
+    let walked = c.in_ok-offsets.ensures in
+    let ls = c.in_ok-check_lanes.ensures walked.walk.values _ (places_at walked) walked.walk.counted in
+    let none = c.in_ok-end.ensures in
+    let filled = c.in_ok-fill_places.ensures in
+    let lanes_filled = c.in_ok-fill_lanes.ensures in
     let room = and_parts _ _ head.read.roomy in
-    tape_loaded 0 c.fill-places.new.self head.read walked.walk ls none (c.fill-places.auto.table ∙ first_entries _ c.args.places.now room.0) filled.read (c.fill-lanes.auto.table ∙ first_entries _ c.args.lanes.now room.1) lanes_filled
+    tape_loaded 0 c.fill_places.new.self head.read walked.walk ls none (c.fill_places.auto.table ∙ first_entries _ c.args.places.now room.0) filled.read (c.fill_lanes.auto.table ∙ first_entries _ c.args.lanes.now room.1) lanes_filled

@@ -4,8 +4,8 @@ use Rattle.std.proofs.lemmas.Slice.{first_rest}
 use Rattle.sitefile.specs.Faults.{missing_byte}
 use Rattle.sitefile.proofs.reader.Reader.byte.Goals as goal
 
-pub returns-in-default : goal.returns-in-default
-returns-in-default c =
+pub returns-in_default : goal.returns-in_default
+returns-in_default c =
     let none : length c.args.self.now.left.now ≡ 0 = search rules in
     record { size = refl; read = (ap missing_byte (omega arith), nil_from_length _ none) }
 

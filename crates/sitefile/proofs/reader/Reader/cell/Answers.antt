@@ -6,15 +6,15 @@ use Rattle.sitefile.proofs.Cells.{no_cell}
 use Rattle.sitefile.proofs.Walks.{begins_number, size_kept, number_fault, size_stays}
 use Rattle.sitefile.proofs.reader.Reader.cell.Goals as goal
 
-pub returns-in-err-time : goal.returns-in-err-time
-returns-in-err-time c =
-    let told = c.in-err-time.ensures in
-    let p = err_from_is_err_and c.from-residual.result c.from-residual.ensures.1 in
+pub returns-in_err-time : goal.returns-in_err-time
+returns-in_err-time c =
+    let told = c.in_err-time.ensures in
+    let p = err_from_is_err_and c.from_residual.result c.from_residual.ensures.1 in
     rw (p.1, p.2) (record { read = λ next. here (no_number (number_fault told)); same_size = size_stays told })
 
 pub returns-then-time-free : goal.returns-then-time-free
 returns-then-time-free c =
-    let told = c.in-ok-time.ensures in
+    let told = c.in_ok-time.ensures in
     record {
       read = λ next. here (outside _ _ (begins_number told) (no_cell _ _ c.if-time-eq0.false c.then-time-free.either) (ap out_of_range (omega arith)));
       same_size = size_kept told;

@@ -10,9 +10,9 @@ use Rattle.sitefile.proofs.Rules.{lanes_none, lanes_more}
 use Rattle.sitefile.proofs.Runs.{at_record}
 use Rattle.sitefile.proofs.reader.Reader.check_lanes.Goals as goal
 
-pub check-lane-requires : goal.check-lane-requires
-check-lane-requires c =
-    let in_range = ranged c.args.head.places c.in-ok-lane.lane c.in-ok-lane.ensures.read.0 in
+pub check_lane-requires : goal.check_lane-requires
+check_lane-requires c =
+    let in_range = ranged c.args.head.places c.in_ok-lane.lane c.in_ok-lane.ensures.read.0 in
     let from = ltb-true _ _ in_range.from_place in
     let to = ltb-true _ _ in_range.to_place in
     let few = c.requires in
@@ -23,9 +23,9 @@ loop-i-init c = (c.none-run.ensures.few, c.none-run.ensures.ranged, λ ps rest a
 
 pub loop-i-preserved : goal.loop-i-preserved
 loop-i-preserved c =
-    let lane = c.in-ok-lane.lane in
-    let read = c.in-ok-lane.ensures in
-    let told = c.in-ok-run.ensures in
+    let lane = c.in_ok-lane.lane in
+    let read = c.in_ok-lane.ensures in
+    let told = c.in_ok-run.ensures in
     let in_range = ranged c.args.head.places lane read.read.0 in
     let from = ltb-true _ _ in_range.from_place in
     let to = ltb-true _ _ in_range.to_place in (
@@ -37,20 +37,20 @@ loop-i-preserved c =
           lanes_more c.lane.new.self lane walked read.read.0 rules.0 read.read.1 read.same_size rules.1,
     )
 
-pub returns-in-err-lane : goal.returns-in-err-lane
-returns-in-err-lane c = λ ps rest at long.
-    let told = c.in-err-lane.ensures in
-    let p = err_from_is_err_and c.from-residual.result c.from-residual.ensures.1 in
+pub returns-in_err-lane : goal.returns-in_err-lane
+returns-in_err-lane c = λ ps rest at long.
+    let told = c.in_err-lane.ensures in
+    let p = err_from_is_err_and c.from_residual.result c.from_residual.ensures.1 in
     let walked = c.loop-i.invariant.2 ps rest at long in
     let count = c.args.head.places in
     rw (p.1, p.2) (at_record (lanes count ps) (lanes_laws count ps c.requires) walked.walk (omega arith) (number_fault count ps walked.walk.values c.loop-i.self told.read))
 
-pub returns-in-err-run : goal.returns-in-err-run
-returns-in-err-run c = λ ps rest at long.
-    let lane = c.in-ok-lane.lane in
-    let read = c.in-ok-lane.ensures in
-    let told = c.in-err-run.ensures in
-    let p = err_from_is_err_and c.from-residual-in-err-run.result c.from-residual-in-err-run.ensures.1 in
+pub returns-in_err-run : goal.returns-in_err-run
+returns-in_err-run c = λ ps rest at long.
+    let lane = c.in_ok-lane.lane in
+    let read = c.in_ok-lane.ensures in
+    let told = c.in_err-run.ensures in
+    let p = err_from_is_err_and c.from_residual-in_err-run.result c.from_residual-in_err-run.ensures.1 in
     let walked = c.loop-i.invariant.2 ps rest at long in
     let count = c.args.head.places in
     let in_range = ranged count lane read.read.0 in
@@ -62,5 +62,5 @@ returns-in-err-run c = λ ps rest at long.
 
 pub returns : goal.returns
 returns c = λ ps rest at long.
-    let done : c.loop-i.-i ≡ c.args.head.lanes = omega arith in
+    let done : c.loop-i._i ≡ c.args.head.lanes = omega arith in
     subst (λ n. Walked (lanes c.args.head.places ps) n c.args.self.now c.loop-i.self) done (c.loop-i.invariant.2 ps rest at long).walk

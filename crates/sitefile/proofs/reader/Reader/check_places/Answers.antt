@@ -12,27 +12,27 @@ loop-i-init c = (refl, noted_none _ _)
 
 pub loop-i-preserved : goal.loop-i-preserved
 loop-i-preserved c =
-    let told = c.in-ok-place.ensures in
+    let told = c.in_ok-place.ensures in
     let inv = c.loop-i.invariant in
     elim c.if-i-eq0.branch [
       | then-i-eq0 w ↦ (
         ap length w.offsets-is ∙ length-set c.loop-i.offsets _ _ ∙ inv.0,
-        subst (λ o. PlacesWalked (c.loop-i.i + 1) c.args.self.now c.place.new.self o) (sym w.offsets-is) (noted_here c.in-ok-place.field-0 inv.1 w.if-i-eq0.true (omega arith) told.read.0 told.read.1 told.same_size),
+        subst (λ o. PlacesWalked (c.loop-i.i + 1) c.args.self.now c.place.new.self o) (sym w.offsets-is) (noted_here c.in_ok-place.field-0 inv.1 w.if-i-eq0.true (omega arith) told.read.0 told.read.1 told.same_size),
       )
       | else-i-eq0 w ↦ (
         ap length w.offsets-is ∙ inv.0,
-        subst (λ o. PlacesWalked (c.loop-i.i + 1) c.args.self.now c.place.new.self o) (sym w.offsets-is) (noted_more c.in-ok-place.field-0 inv.1 w.if-i-eq0.false told.read.0 told.read.1 told.same_size),
+        subst (λ o. PlacesWalked (c.loop-i.i + 1) c.args.self.now c.place.new.self o) (sym w.offsets-is) (noted_more c.in_ok-place.field-0 inv.1 w.if-i-eq0.false told.read.0 told.read.1 told.same_size),
       )
     ]
 
-pub returns-in-err-place : goal.returns-in-err-place
-returns-in-err-place c =
-    let told = c.in-err-place.ensures in
-    let p = err_from_is_err_and c.from-residual.result c.from-residual.ensures.1 in
+pub returns-in_err-place : goal.returns-in_err-place
+returns-in_err-place c =
+    let told = c.in_err-place.ensures in
+    let p = err_from_is_err_and c.from_residual.result c.from_residual.ensures.1 in
     rw (p.1, p.2) (at_record places places_laws c.loop-i.invariant.1.walk (omega arith) told.read)
 
-pub overflow-sub-offsets : goal.overflow-sub-offsets
-overflow-sub-offsets c = walked_on c.loop-i.invariant.1.walk
+pub overflow_sub-offsets : goal.overflow_sub-offsets
+overflow_sub-offsets c = walked_on c.loop-i.invariant.1.walk
 
 pub returns : goal.returns
 returns c =

@@ -6,4 +6,4 @@ use Rattle.sitefile.specs.Tapes.{places, PlacesAt}
 use Rattle.sitefile.proofs.reader.Reader.find_place.Given as goal
 
 abbrev pub invariant-loop-i : goal.invariant-loop-i
-invariant-loop-i l = (ps : List Place) (rest : List ℕ) → PlacesAt ps rest l.self l.offsets → l.number < length ps → ahead l.walk ≡ encode_all places (drop (64 * (l.number / 64) + l.-i) ps) rest
+invariant-loop-i l = (ps : List Place) (rest : List ℕ) → PlacesAt ps rest l.self l.offsets → l.number < length ps → ahead l.walk ≡ encode_all places (drop (64 * (l.number / 64) + l._i) ps) rest

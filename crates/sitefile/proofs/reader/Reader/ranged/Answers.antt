@@ -6,13 +6,13 @@ use Rattle.sitefile.proofs.Fields.{not_between}
 use Rattle.sitefile.proofs.Walks.{begins_number, size_kept, number_fault, size_stays}
 use Rattle.sitefile.proofs.reader.Reader.ranged.Goals as goal
 
-pub returns-in-err-n : goal.returns-in-err-n
-returns-in-err-n c =
-    let told = c.in-err-n.ensures in
-    let p = err_from_is_err_and c.from-residual.result c.from-residual.ensures.1 in
+pub returns-in_err-n : goal.returns-in_err-n
+returns-in_err-n c =
+    let told = c.in_err-n.ensures in
+    let p = err_from_is_err_and c.from_residual.result c.from_residual.ensures.1 in
     record { size = size_stays told; read = rw (p.1, p.2) (no_number (number_fault told)) }
 
 pub returns-then-n-lowest : goal.returns-then-n-lowest
 returns-then-n-lowest c =
-    let told = c.in-ok-n.ensures in
+    let told = c.in_ok-n.ensures in
     record { size = size_kept told; read = outside _ _ (begins_number told) (not_between _ _ _ c.then-n-lowest.either) (ap out_of_range (omega arith)) }

@@ -5,33 +5,33 @@ use Rattle.sitefile.specs.Formats.{here, later}
 use Rattle.sitefile.proofs.Fields.{field_at, check_failed}
 use Rattle.sitefile.proofs.reader.Reader.tape_head.Goals as goal
 
-pub returns-in-err-places : goal.returns-in-err-places
-returns-in-err-places c =
-    let told = c.in-err-places.ensures in
-    let p = err_from_is_err_and c.from-residual.result c.from-residual.ensures.1 in
+pub returns-in_err-places : goal.returns-in_err-places
+returns-in_err-places c =
+    let told = c.in_err-places.ensures in
+    let p = err_from_is_err_and c.from_residual.result c.from_residual.ensures.1 in
     record { size = told.size; read = rw (p.1, p.2) (here told.read) }
 
-pub returns-in-err-lanes : goal.returns-in-err-lanes
-returns-in-err-lanes c =
-    let places = c.in-ok-places.ensures in
-    let told = c.in-err-lanes.ensures in
-    let p = err_from_is_err_and c.from-residual-in-err-lanes.result c.from-residual-in-err-lanes.ensures.1 in
+pub returns-in_err-lanes : goal.returns-in_err-lanes
+returns-in_err-lanes c =
+    let places = c.in_ok-places.ensures in
+    let told = c.in_err-lanes.ensures in
+    let p = err_from_is_err_and c.from_residual-in_err-lanes.result c.from_residual-in_err-lanes.ensures.1 in
     record { size = told.size ∙ places.size; read = rw (p.1, p.2) (later _ _ places.read (here (field_at places.size told.read))) }
 
-pub returns-then-place-entries-places : goal.returns-then-place-entries-places
-returns-then-place-entries-places c =
-    let places = c.in-ok-places.ensures in
-    let lanes = c.in-ok-lanes.ensures in
+pub returns-then-place_entries-places : goal.returns-then-place_entries-places
+returns-then-place_entries-places c =
+    let places = c.in_ok-places.ensures in
+    let lanes = c.in_ok-lanes.ensures in
     record {
       size = lanes.size ∙ places.size;
-      read = later _ _ places.read (later _ _ lanes.read (check_failed (and_left _ _ (lt-leb c.in-ok-places.places c.args.place-entries (omega arith)))));
+      read = later _ _ places.read (later _ _ lanes.read (check_failed (and_left _ _ (lt-leb c.in_ok-places.places c.args.place_entries (omega arith)))));
     }
 
-pub returns-then-lane-entries-lanes : goal.returns-then-lane-entries-lanes
-returns-then-lane-entries-lanes c =
-    let places = c.in-ok-places.ensures in
-    let lanes = c.in-ok-lanes.ensures in
+pub returns-then-lane_entries-lanes : goal.returns-then-lane_entries-lanes
+returns-then-lane_entries-lanes c =
+    let places = c.in_ok-places.ensures in
+    let lanes = c.in_ok-lanes.ensures in
     record {
       size = lanes.size ∙ places.size;
-      read = later _ _ places.read (later _ _ lanes.read (check_failed (and_right _ _ (lt-leb c.in-ok-lanes.lanes c.args.lane-entries (omega arith)))));
+      read = later _ _ places.read (later _ _ lanes.read (check_failed (and_right _ _ (lt-leb c.in_ok-lanes.lanes c.args.lane_entries (omega arith)))));
     }

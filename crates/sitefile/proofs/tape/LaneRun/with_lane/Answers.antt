@@ -13,9 +13,9 @@ returns-then-self-gt0 c = record {
 pub returns : goal.returns
 returns c = record {
   few = search rules;
-  ranged = c.in-ok-place.ensures.ranged;
+  ranged = c.in_ok-place.ensures.ranged;
   run = λ ps rest before at few r up.
-      let found = c.in-ok-place.ensures.found ps rest at few in
-      let is : c.in-ok-place.place ≡ place_at ps c.args.lane.from = cc in
+      let found = c.in_ok-place.ensures.found ps rest at few in
+      let is : c.in_ok-place.place ≡ place_at ps c.args.lane.from = cc in
       run_begins r c.args.lane _ up (λ e. ⊎_elim (λ h. omega arith) (λ ne. absurd (ne e)) c.else-lane-self.either) refl is refl;
 }
