@@ -15,11 +15,11 @@ explore-opened-requires g c = record {
   sound = subst (Sound g.Cost.Cost.kind (g.S.Site.meaning c.args.site.now) c.args.target) (sym (clear_estimates c.args.sheet.now c.clear.new.sheet c.clear.ensures)) c.requires.sound;
 }
 
-pub offset-bounds-sheet-target : goal.offset-bounds-sheet-target
-offset-bounds-sheet-target g c = let h : c.args.target < length c.args.sheet.now = omega (arith, c.requires.sheet, c.requires.named.1) in search rules
+pub offset_bounds-sheet-target : goal.offset_bounds-sheet-target
+offset_bounds-sheet-target g c = let h : c.args.target < length c.args.sheet.now = omega (arith, c.requires.sheet, c.requires.named.1) in search rules
 
-pub tell-route-count-requires : goal.tell-route-count-requires
-tell-route-count-requires g c =
+pub tell_route-count-requires : goal.tell_route-count-requires
+tell_route-count-requires g c =
     let m = g.S.Site.meaning c.args.site.now in
     let long : length c.explore-opened.new.sheet ≡ m.places = c.explore-opened.auto.sheet ∙ c.clear.auto.sheet ∙ c.requires.sheet in
     record {
@@ -55,4 +55,4 @@ returns g c =
     let same = clear_estimates c.args.sheet.now c.clear.new.sheet c.clear.ensures in
     let listed : target < length sheet = omega (arith, c.requires.named.1) in
     searched_all laws g.met.Cost.PositiveCost.positive c.requires.lawful c.args.start target c.requires.named.0 c.requires.named.1 c.args.sheet.now (estimate_of c.clear.new.sheet) same sheet c.raise.new.sheet c.explore-opened.result c.explore-opened.ensures long
-    (get_or sheet target old).distance (read_distance sheet target old listed c.index-sheet-target.is) c.raise.ensures c.args.list.now c.tell-route-count.new.list c.tell-route-count.result c.tell-route-count.ensures
+    (get_or sheet target old).distance (read_distance sheet target old listed c.index-sheet-target.is) c.raise.ensures c.args.list.now c.tell_route-count.new.list c.tell_route-count.result c.tell_route-count.ensures

@@ -5,19 +5,19 @@ use Rattle.floor.proofs.GridWays.{cell_neighbours}
 use Rattle.floor.proofs.FloorFacts.{head_facts, none_beside, past_beside, cell_beside, spot}
 use Rattle.floor.proofs.Floor.neighbour.Goals as goal
 
-pub returns-then-not-has-grid : goal.returns-then-not-has-grid
-returns-then-not-has-grid c = none_beside c.args.self.now c.args.cell c.args.index (sym c.if-not-has-grid.ensures)
+pub returns-then-not-has_grid : goal.returns-then-not-has_grid
+returns-then-not-has_grid c = none_beside c.args.self.now c.args.cell c.args.index (sym c.if-not-has_grid.ensures)
 
-pub overflow-mul-self : goal.overflow-mul-self
-overflow-mul-self c = let k = head_facts c.args.self.now (sym c.if-not-has-grid.ensures) in omega arith
+pub overflow_mul-self : goal.overflow_mul-self
+overflow_mul-self c = let k = head_facts c.args.self.now (sym c.if-not-has_grid.ensures) in omega arith
 
 pub returns-then-self-cell : goal.returns-then-self-cell
-returns-then-self-cell c = past_beside c.args.self.now c.args.cell c.args.index (sym c.if-not-has-grid.ensures) c.if-self-cell.true
+returns-then-self-cell c = past_beside c.args.self.now c.args.cell c.args.index (sym c.if-not-has_grid.ensures) c.if-self-cell.true
 
-pub cells-around-around-requires : goal.cells-around-around-requires
-cells-around-around-requires c =
+pub cells_around-around-requires : goal.cells_around-around-requires
+cells_around-around-requires c =
     let s = c.args.self.now in
-    let k = head_facts s (sym c.if-not-has-grid.ensures) in
+    let k = head_facts s (sym c.if-not-has_grid.ensures) in
     let at = spot s c.args.cell c.if-self-cell.false in
     record { few_columns = k.few_columns; row = omega arith; column = omega arith }
 
@@ -26,7 +26,7 @@ returns c =
     let s = c.args.self.now in
     let p = c.args.cell in
     let i = c.args.index in
-    c.nth-present.ensures
-    ∙ ap (λ os. slice_get (present os) i) c.cells-around-around.ensures
+    c.nth_present.ensures
+    ∙ ap (λ os. slice_get (present os) i) c.cells_around-around.ensures
     ∙ ap (λ xs. slice_get xs i) (sym (cell_neighbours s.rows s.columns p c.if-self-cell.false))
-    ∙ sym (cell_beside s p i (sym c.if-not-has-grid.ensures))
+    ∙ sym (cell_beside s p i (sym c.if-not-has_grid.ensures))

@@ -7,19 +7,19 @@ use Rattle.search.proofs.Sweeps.{read_distance, offered_is, ways_done, way_there
 use Rattle.search.proofs.explore.expand.Given.{Over}
 use Rattle.search.proofs.explore.expand.Goals as goal
 
-pub offset-bounds-sheet-from : goal.offset-bounds-sheet-from
-offset-bounds-sheet-from g c = let h : c.args.from < length c.args.sheet.now = omega (arith, c.requires.ready.long, c.requires.place) in search rules
+pub offset_bounds-sheet-from : goal.offset_bounds-sheet-from
+offset_bounds-sheet-from g c = let h : c.args.from < length c.args.sheet.now = omega (arith, c.requires.ready.long, c.requires.place) in search rules
 
 pub loop-way-init : goal.loop-way-init
 loop-way-init g c = ((omega arith), swept_none g.met.Cost.Cost.lawful (g.S.Site.meaning c.args.site.now) c.args.from c.args.sheet.now c.args.queue.now c.args.len c.requires.ready.queue)
 
-pub cost-over-cost-requires : goal.cost-over-cost-requires
-cost-over-cost-requires g c = segment_there g.met.Cost.Cost.lawful c.requires.lawful c.args.from c.loop-way.index c.requires.place c.in-Some.way c.in-Some.ensures
+pub cost_over-cost-requires : goal.cost_over-cost-requires
+cost_over-cost-requires g c = segment_there g.met.Cost.Cost.lawful c.requires.lawful c.args.from c.loop-way.index c.requires.place c.in-Some.way c.in-Some.ensures
 
 pub plus-requires : goal.plus-requires
 plus-requires g c = (
   subst (Within g.Cost.Cost.kind) (sym (read_distance c.args.sheet.now c.args.from c.index-sheet-from.result (omega (arith, c.requires.ready.long, c.requires.place)) c.index-sheet-from.is)) c.requires.within,
-  subst (Within g.Cost.Cost.kind) (sym c.cost-over-cost.ensures) (state_within g.met.Cost.Cost.lawful c.requires.lawful c.args.from c.loop-way.index c.requires.place c.in-Some.way c.in-Some.ensures),
+  subst (Within g.Cost.Cost.kind) (sym c.cost_over-cost.ensures) (state_within g.met.Cost.Cost.lawful c.requires.lawful c.args.from c.loop-way.index c.requires.place c.in-Some.way c.in-Some.ensures),
 )
 
 pub relax-len-requires : goal.relax-len-requires
@@ -31,7 +31,7 @@ relax-len-requires g c =
     let w = c.in-Some.way in
     let sheet = c.args.sheet.now in
     let mid = c.loop-way.sheet in
-    let offered = offered_is K sheet x c.index-sheet-from.result c.cost-over-cost.result (m.state w.segment) c.plus.result (omega (arith, c.requires.ready.long, c.requires.place)) c.index-sheet-from.is c.cost-over-cost.ensures c.plus.ensures in
+    let offered = offered_is K sheet x c.index-sheet-from.result c.cost_over-cost.result (m.state w.segment) c.plus.result (omega (arith, c.requires.ready.long, c.requires.place)) c.index-sheet-from.is c.cost_over-cost.ensures c.plus.ensures in
     let swept = c.loop-way.invariant.1 in
     let end = end_place laws c.requires.lawful x c.loop-way.index c.requires.place w c.in-Some.ensures in
     let same = c.loop-way.auto.sheet in
@@ -44,8 +44,8 @@ relax-len-requires g c =
       room = next_room laws c.requires.lawful x c.loop-way.index c.requires.place w c.in-Some.ensures sheet mid c.args.queue.now c.loop-way.queue c.args.len c.loop-way.len swept (same ∙ c.requires.ready.long) (omega (arith, c.requires.ready.room));
     }
 
-pub overflow-add-index : goal.overflow-add-index
-overflow-add-index g c = let h = few g.met.Cost.Cost.lawful c.requires.lawful c.args.from c.loop-way.index c.requires.place c.in-Some.way c.in-Some.ensures in search rules
+pub overflow_add-index : goal.overflow_add-index
+overflow_add-index g c = let h = few g.met.Cost.Cost.lawful c.requires.lawful c.args.from c.loop-way.index c.requires.place c.in-Some.way c.in-Some.ensures in search rules
 
 pub loop-way-smaller : goal.loop-way-smaller
 loop-way-smaller g c = let h = way_there (g.S.Site.meaning c.args.site.now) c.args.from c.loop-way.index c.requires.place c.in-Some.way c.in-Some.ensures in omega arith
@@ -63,7 +63,7 @@ loop-way-preserved g c =
     let after = c.relax-len.new.sheet in
     let r = c.loop-way.queue in
     let t = c.relax-len.new.queue in
-    let offered = offered_is K sheet x c.index-sheet-from.result c.cost-over-cost.result (m.state w.segment) c.plus.result (omega (arith, c.requires.ready.long, c.requires.place)) c.index-sheet-from.is c.cost-over-cost.ensures c.plus.ensures in
+    let offered = offered_is K sheet x c.index-sheet-from.result c.cost_over-cost.result (m.state w.segment) c.plus.result (omega (arith, c.requires.ready.long, c.requires.place)) c.index-sheet-from.is c.cost_over-cost.ensures c.plus.ensures in
     let there = way_there m x i c.requires.place w c.in-Some.ensures in
     let relaxed = subst (λ d. Relaxed K mid after r t c.loop-way.len c.relax-len.result x w.end d) offered c.relax-len.ensures in
     ((omega arith), swept_turn laws c.requires.lawful x i c.requires.place w c.in-Some.ensures sheet mid c.args.queue.now r c.args.len c.loop-way.len c.loop-way.invariant.1 after t c.relax-len.result relaxed)
@@ -71,5 +71,5 @@ loop-way-preserved g c =
 pub returns : goal.returns
 returns g c =
     let m = g.S.Site.meaning c.args.site.now in
-    let done = ways_done m c.args.from c.loop-way.index c.requires.place c.in-default.ensures in
+    let done = ways_done m c.args.from c.loop-way.index c.requires.place c.in_default.ensures in
     subst (λ ws. Swept g.Cost.Cost.kind m c.args.from ws c.args.sheet.now c.loop-way.sheet c.args.queue.now c.loop-way.queue c.args.len c.loop-way.len) (take_all c.loop-way.index (m.ways c.args.from) done) c.loop-way.invariant.1

@@ -32,8 +32,8 @@ loop-len-init g c =
     let relaxed = subst (Relaxed K sheet after q r 0 k start start) c.zero.ensures c.relax-len.ensures in
     exploring_start g.met.Cost.Cost.lawful c.requires.lawful start c.args.target c.requires.named.0 sheet after q r k c.requires.fresh relaxed
 
-pub returns-then-is-settled : goal.returns-then-is-settled
-returns-then-is-settled g c =
+pub returns-then-is_settled : goal.returns-then-is_settled
+returns-then-is_settled g c =
     let K = g.Cost.Cost.kind in
     let m = g.S.Site.meaning c.args.site.now in
     let start = c.args.start in
@@ -42,12 +42,12 @@ returns-then-is-settled g c =
     let same = relaxed_estimates c.args.sheet.now c.relax-len.new.sheet c.args.queue.now c.relax-len.new.queue 0 c.relax-len.result start start c.zero.result c.relax-len.ensures in
     let sound = subst (Sound K m target) (sym same) c.requires.sound in
     let long : length sheet ≡ m.places = c.loop-len.auto.sheet ∙ c.relax-len.auto.sheet ∙ c.requires.memory.0 in
-    let settled : length_le K (distance_of sheet target) (sum_of K sheet c.pop-place.result) ≡ true = sym c.is-settled.ensures ∙ c.if-is-settled.true in
+    let settled : length_le K (distance_of sheet target) (sum_of K sheet c.pop-place.result) ≡ true = sym c.is_settled.ensures ∙ c.if-is_settled.true in
     subst (λ e. Explored K m start target e sheet c.loop-len.opened) same
     (explored_found g.met.Cost.Cost.lawful g.met.Cost.PositiveCost.positive c.requires.lawful start target c.requires.named.0 c.requires.named.1 (estimate_of c.relax-len.new.sheet) sound sheet c.loop-len.queue c.loop-len.len c.loop-len.opened c.loop-len.invariant long c.pop-place.new.queue c.pop-place.result c.pop-place.ensures settled)
 
-pub open-place-len-requires : goal.open-place-len-requires
-open-place-len-requires g c =
+pub open_place-len-requires : goal.open_place-len-requires
+open_place-len-requires g c =
     let K = g.Cost.Cost.kind in
     let m = g.S.Site.meaning c.args.site.now in
     let start = c.args.start in
@@ -58,7 +58,7 @@ open-place-len-requires g c =
     let same = relaxed_estimates c.args.sheet.now c.relax-len.new.sheet c.args.queue.now c.relax-len.new.queue 0 c.relax-len.result start start c.zero.result c.relax-len.ensures in
     let sound = subst (Sound K m target) (sym same) c.requires.sound in
     let long : length sheet ≡ m.places = c.loop-len.auto.sheet ∙ c.relax-len.auto.sheet ∙ c.requires.memory.0 in
-    let unsettled : length_le K (distance_of sheet target) (sum_of K sheet x) ≡ false = sym c.is-settled.ensures ∙ c.if-is-settled.false in
+    let unsettled : length_le K (distance_of sheet target) (sum_of K sheet x) ≡ false = sym c.is_settled.ensures ∙ c.if-is_settled.false in
     let wide : length c.pop-place.new.queue ≡ length c.args.queue.now = c.pop-place.auto.queue ∙ c.loop-len.auto.queue ∙ c.relax-len.auto.queue in
     record {
       lawful = c.requires.lawful;
@@ -73,8 +73,8 @@ open-place-len-requires g c =
       improves = improving laws g.met.Cost.PositiveCost.positive c.requires.lawful start target c.requires.named.0 c.requires.named.1 (estimate_of c.relax-len.new.sheet) sound sheet c.loop-len.queue c.loop-len.len c.loop-len.opened c.loop-len.invariant long c.pop-place.new.queue x c.pop-place.ensures unsettled;
     }
 
-pub overflow-add-opened : goal.overflow-add-opened
-overflow-add-opened g c =
+pub overflow_add-opened : goal.overflow_add-opened
+overflow_add-opened g c =
     let K = g.Cost.Cost.kind in
     let m = g.S.Site.meaning c.args.site.now in
     let start = c.args.start in
@@ -112,9 +112,9 @@ loop-len-preserved g c =
     let same = relaxed_estimates c.args.sheet.now c.relax-len.new.sheet c.args.queue.now c.relax-len.new.queue 0 c.relax-len.result start start c.zero.result c.relax-len.ensures in
     let sound = subst (Sound K m target) (sym same) c.requires.sound in
     let long : length sheet ≡ m.places = c.loop-len.auto.sheet ∙ c.relax-len.auto.sheet ∙ c.requires.memory.0 in
-    let unsettled : length_le K (distance_of sheet target) (sum_of K sheet x) ≡ false = sym c.is-settled.ensures ∙ c.if-is-settled.false in
-    let after = c.open-place-len.new.sheet in
-    exploring_turn g.met.Cost.Cost.lawful g.met.Cost.PositiveCost.positive c.requires.lawful start target c.requires.named.0 c.requires.named.1 (estimate_of c.relax-len.new.sheet) sound sheet c.loop-len.queue c.loop-len.len c.loop-len.opened c.loop-len.invariant long c.pop-place.new.queue x c.pop-place.ensures unsettled after c.open-place-len.new.queue c.open-place-len.result c.open-place-len.ensures (c.open-place-len.auto.sheet ∙ long)
+    let unsettled : length_le K (distance_of sheet target) (sum_of K sheet x) ≡ false = sym c.is_settled.ensures ∙ c.if-is_settled.false in
+    let after = c.open_place-len.new.sheet in
+    exploring_turn g.met.Cost.Cost.lawful g.met.Cost.PositiveCost.positive c.requires.lawful start target c.requires.named.0 c.requires.named.1 (estimate_of c.relax-len.new.sheet) sound sheet c.loop-len.queue c.loop-len.len c.loop-len.opened c.loop-len.invariant long c.pop-place.new.queue x c.pop-place.ensures unsettled after c.open_place-len.new.queue c.open_place-len.result c.open_place-len.ensures (c.open_place-len.auto.sheet ∙ long)
 
 pub returns : goal.returns
 returns g c =

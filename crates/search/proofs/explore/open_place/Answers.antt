@@ -5,8 +5,8 @@ use Rattle.search.specs.Exploring.{Ready, Improves, Swept}
 use Rattle.search.proofs.Marks.{mark_written, mark_distance, mark_ready, mark_improves}
 use Rattle.search.proofs.explore.open_place.Goals as goal
 
-pub offset-bounds-sheet-place : goal.offset-bounds-sheet-place
-offset-bounds-sheet-place g c = let h : c.args.place < length c.args.sheet.now = omega (arith, c.requires.ready.long, c.requires.place) in search rules
+pub offset_bounds-sheet-place : goal.offset_bounds-sheet-place
+offset_bounds-sheet-place g c = let h : c.args.place < length c.args.sheet.now = omega (arith, c.requires.ready.long, c.requires.place) in search rules
 
 pub expand-requires : goal.expand-requires
 expand-requires g c =

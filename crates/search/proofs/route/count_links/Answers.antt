@@ -11,11 +11,11 @@ loop-place-init g c =
     let sheet = c.args.sheet.now in
     (walked_none laws sheet c.args.start c.args.target c.requires.found, (omega (arith, rank_below laws (length sheet) (distance_of sheet) c.args.target c.requires.found.0)))
 
-pub offset-bounds-sheet-place : goal.offset-bounds-sheet-place
-offset-bounds-sheet-place g c = let h : c.loop-place.place < length c.args.sheet.now = c.loop-place.invariant.0.led.0 in search rules
+pub offset_bounds-sheet-place : goal.offset_bounds-sheet-place
+offset_bounds-sheet-place g c = let h : c.loop-place.place < length c.args.sheet.now = c.loop-place.invariant.0.led.0 in search rules
 
-pub overflow-add-links : goal.overflow-add-links
-overflow-add-links g c = let h : c.loop-place.links < 4096 = omega (arith, c.loop-place.invariant.0.short, c.requires.few) in search rules
+pub overflow_add-links : goal.overflow_add-links
+overflow_add-links g c = let h : c.loop-place.links < 4096 = omega (arith, c.loop-place.invariant.0.short, c.requires.few) in search rules
 
 pub loop-place-smaller : goal.loop-place-smaller
 loop-place-smaller g c = omega (arith, c.loop-place.invariant.0.short)

@@ -16,13 +16,13 @@ loop-left-init g c =
     )
 
 -- the place is one of the sheet's
-pub overflow-cast-place : goal.overflow-cast-place
-overflow-cast-place g c =
+pub overflow_cast-place : goal.overflow_cast-place
+overflow_cast-place g c =
     let h : c.loop-left.place < length c.args.sheet.now = subst (λ p. p < length c.args.sheet.now) (sym c.loop-left.invariant.1) (c.requires.places (c.args.count - c.loop-left.left) (omega (arith, c.loop-left.invariant.0, c.loop-left-test.true))) in
     search rules
 
-pub offset-bounds-sheet-place : goal.offset-bounds-sheet-place
-offset-bounds-sheet-place g c =
+pub offset_bounds-sheet-place : goal.offset_bounds-sheet-place
+offset_bounds-sheet-place g c =
     let h : c.loop-left.place < length c.args.sheet.now = subst (λ p. p < length c.args.sheet.now) (sym c.loop-left.invariant.1) (c.requires.places (c.args.count - c.loop-left.left) (omega (arith, c.loop-left.invariant.0, c.loop-left-test.true))) in
     search rules
 

@@ -14,39 +14,39 @@ returns-in_default c =
     let none : length c.args.file.now ≡ 0 = search rules in
     load_faulty (empty (nil_from_length _ none) refl)
 
-pub returns-in-err-head : goal.returns-in-err-head
-returns-in-err-head c =
+pub returns-in_err-head-in-70 : goal.returns-in_err-head-in-70
+returns-in_err-head-in-70 c =
     let some : 0 < length c.args.file.now = search rules in
     let kind : get_or c.args.file.now 0 0 ≡ floor_kind = search rules in
     let reader = c.after_kind.ensures in
     let whole : c.args.file.now ≡ floor_kind ∷ ahead c.after_kind.result = first_rest c.args.file.now 0 some ∙ (λ i. kind i ∷ sym reader.ahead i) in
     let p = err_from_is_err_and c.from_residual.result c.from_residual.ensures.1 in
-    rw (p.1, p.2) (floor_faults c.args.places.now c.args.lanes.now whole (omega (arith, ap length whole, reader.at)) c.in-err-head.ensures)
+    rw (p.1, p.2) (floor_faults c.args.places.now c.args.lanes.now whole (omega (arith, ap length whole, reader.at)) c.in_err-head-in-70.ensures)
 
-pub returns-in-ok-head : goal.returns-in-ok-head
-returns-in-ok-head c =
+pub returns-in_ok-head-in-70 : goal.returns-in_ok-head-in-70
+returns-in_ok-head-in-70 c =
     let some : 0 < length c.args.file.now = search rules in
     let kind : get_or c.args.file.now 0 0 ≡ floor_kind = search rules in
     let reader = c.after_kind.ensures in
     let whole : c.args.file.now ≡ floor_kind ∷ ahead c.after_kind.result = first_rest c.args.file.now 0 some ∙ (λ i. kind i ∷ sym reader.ahead i) in
-    floor_loads 0 c.args.places.now c.args.lanes.now whole c.in-ok-head.ensures
+    floor_loads 0 c.args.places.now c.args.lanes.now whole c.in_ok-head-in-70.ensures
 
-pub returns-in-err-head-2 : goal.returns-in-err-head-2
-returns-in-err-head-2 c =
+pub returns-in_err-head-in-84 : goal.returns-in_err-head-in-84
+returns-in_err-head-in-84 c =
     let some : 0 < length c.args.file.now = search rules in
     let kind : get_or c.args.file.now 0 0 ≡ tape_kind = search rules in
     let reader = c.after_kind-in-84.ensures in
     let whole : c.args.file.now ≡ tape_kind ∷ ahead c.after_kind-in-84.result = first_rest c.args.file.now 0 some ∙ (λ i. kind i ∷ sym reader.ahead i) in
-    let p = err_from_is_err_and c.from-residual-in-err-head-2.result c.from-residual-in-err-head-2.ensures.1 in
-    rw (p.1, p.2) (tape_faults c.args.cells.now whole (omega (arith, ap length whole, reader.at)) c.in-err-head-2.ensures)
+    let p = err_from_is_err_and c.from_residual-in_err-head-in-84.result c.from_residual-in_err-head-in-84.ensures.1 in
+    rw (p.1, p.2) (tape_faults c.args.cells.now whole (omega (arith, ap length whole, reader.at)) c.in_err-head-in-84.ensures)
 
-pub returns-in-ok-head-2 : goal.returns-in-ok-head-2
-returns-in-ok-head-2 c =
+pub returns-in_ok-head-in-84 : goal.returns-in_ok-head-in-84
+returns-in_ok-head-in-84 c =
     let some : 0 < length c.args.file.now = search rules in
     let kind : get_or c.args.file.now 0 0 ≡ tape_kind = search rules in
     let reader = c.after_kind-in-84.ensures in
     let whole : c.args.file.now ≡ tape_kind ∷ ahead c.after_kind-in-84.result = first_rest c.args.file.now 0 some ∙ (λ i. kind i ∷ sym reader.ahead i) in
-    tape_loads 0 c.args.cells.now whole c.in-ok-head-2.ensures
+    tape_loads 0 c.args.cells.now whole c.in_ok-head-in-84.ensures
 
 pub returns-in_default-kind : goal.returns-in_default-kind
 returns-in_default-kind c =

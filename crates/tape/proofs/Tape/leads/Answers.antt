@@ -14,15 +14,15 @@ pub returns-then-self-lane : goal.returns-then-self-lane
 unfolding leads
 returns-then-self-lane c = search rules
 
-pub returns-then-not-is-listed : goal.returns-then-not-is-listed
+pub returns-then-not-is_listed : goal.returns-then-not-is_listed
 unfolding leads
-returns-then-not-is-listed c = search rules
+returns-then-not-is_listed c = search rules
 
-pub larger-difference-requires : goal.larger-difference-requires
-larger-difference-requires c = record {
+pub larger_difference-requires : goal.larger_difference-requires
+larger_difference-requires c = record {
   ranged = (
-    subst (λ q. is_place q ≡ true) (sym c.place-read-start.ensures) (read_is_place c.place.result),
-    subst (λ q. is_place q ≡ true) (sym c.place-read-end.ensures) (read_is_place c.place-2.result),
+    subst (λ q. is_place q ≡ true) (sym c.place_read-start.ensures) (read_is_place c.place.result),
+    subst (λ q. is_place q ≡ true) (sym c.place_read-end.ensures) (read_is_place c.place-2.result),
   );
 }
 
@@ -30,11 +30,11 @@ pub returns : goal.returns
 returns c =
     let s = c.args.self.now in
     let e = c.lane-lane.ensures in
-    let start = c.place-read-start.ensures ∙ ap read_place c.place.ensures in
-    let end = c.place-read-end.ensures ∙ ap read_place (c.place-2.ensures ∙ ap (λ (l : Lane). place_at (places_of s) l.to) e) in
-    let time = c.floor-read.ensures ∙ ap read_floor e in
-    let far = c.larger-difference.ensures ∙ (λ i. larger_difference (start i) (end i)) in
-    let lists : true ≡ listed s.lanes_count (place_at (places_of s) c.lane-lane.result.to) (lanes_of s) c.args.segment = c.if-not-is-listed.ensures in
+    let start = c.place_read-start.ensures ∙ ap read_place c.place.ensures in
+    let end = c.place_read-end.ensures ∙ ap read_place (c.place-2.ensures ∙ ap (λ (l : Lane). place_at (places_of s) l.to) e) in
+    let time = c.floor_read.ensures ∙ ap read_floor e in
+    let far = c.larger_difference.ensures ∙ (λ i. larger_difference (start i) (end i)) in
+    let lists : true ≡ listed s.lanes_count (place_at (places_of s) c.lane-lane.result.to) (lanes_of s) c.args.segment = c.if-not-is_listed.ensures in
     let leaves : c.lane-lane.result.from ≡ c.args.place = c.if-lane-place.false in
     let ends : c.lane-lane.result.to < s.places_count = c.if-self-lane.false in
     (λ i. leb (far i) (time i).time.count)

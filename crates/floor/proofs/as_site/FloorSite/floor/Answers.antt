@@ -8,5 +8,5 @@ pub returns-then-segment-segments : goal.returns-then-segment-segments
 returns-then-segment-segments c =
     let s = c.args.self.now in
     let f = c.args.segment in
-    ap Some c.free-cost.ensures
+    ap Some c.free_cost.ensures
     ∙ sym (ap (λ m. floor_of m f) (means_grid s (grid_from_segment s f _ c.segments.ensures c.if-segment-segments.true)) ∙ there f _ _ (in_grid s f _ c.segments.ensures c.if-segment-segments.true))

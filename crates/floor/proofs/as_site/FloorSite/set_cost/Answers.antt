@@ -14,13 +14,13 @@ returns-then-segments-segment c =
     let out = past_refused milliseconds m c.args.segment (Finite c.args.cost) (let e = c.segments.ensures in omega arith) in
     record { answer = sym out; after = refused_kept milliseconds m c.args.segment (Finite c.args.cost) out; directory = refl }
 
-pub returns-then-not-is-allowed : goal.returns-then-not-is-allowed
-returns-then-not-is-allowed c =
+pub returns-then-not-is_allowed : goal.returns-then-not-is_allowed
+returns-then-not-is_allowed c =
     let s = c.args.self.now in
     let m = floor_meaning s in
     let f = c.args.segment in
     let x = Finite c.args.cost in
-    let out = not_allowed_refused milliseconds m f x (ap (λ a. allowed milliseconds a x) (floor_there s f _ c.segments.ensures c.if-segments-segment.false ∙ sym c.free-cost.ensures) ∙ sym c.if-not-is-allowed.ensures) in
+    let out = not_allowed_refused milliseconds m f x (ap (λ a. allowed milliseconds a x) (floor_there s f _ c.segments.ensures c.if-segments-segment.false ∙ sym c.free_cost.ensures) ∙ sym c.if-not-is_allowed.ensures) in
     record { answer = sym out; after = refused_kept milliseconds m f x out; directory = refl }
 
 pub bounds-self-segment : goal.bounds-self-segment
@@ -31,7 +31,7 @@ returns c =
     let s = c.args.self.now in
     let f = c.args.segment in
     let x = Finite c.args.cost in
-    let ok : allowed milliseconds (ms s.free) x ≡ true = ap (λ a. allowed milliseconds a x) (sym c.free-cost.ensures) ∙ sym c.if-not-is-allowed.ensures in
+    let ok : allowed milliseconds (ms s.free) x ≡ true = ap (λ a. allowed milliseconds a x) (sym c.free_cost.ensures) ∙ sym c.if-not-is_allowed.ensures in
     let ranged = allowed_cell s.free c.args.cost ok in
     record {
       answer = sym (set_granted s f _ c.segments.ensures c.if-segments-segment.false (Open c.args.cost.count) ok);

@@ -12,5 +12,5 @@ pub returns-then-segment-segments : goal.returns-then-segment-segments
 returns-then-segment-segments c =
     let s = c.args.self.now in
     let f = c.args.segment in
-    ap Some (c.as-length.ensures ∙ ap cell_length (c.as-read.ensures ∙ sym (state_read s f _ c.segments.ensures c.if-segment-segments.true _)))
+    ap Some (c.as_length.ensures ∙ ap cell_length (c.as_read.ensures ∙ sym (state_read s f _ c.segments.ensures c.if-segment-segments.true _)))
     ∙ sym (ap (λ m. state_of m f) (means_grid s (grid_from_segment s f _ c.segments.ensures c.if-segment-segments.true)) ∙ there f _ _ (in_grid s f _ c.segments.ensures c.if-segment-segments.true))

@@ -17,5 +17,5 @@ pub returns-then-segment-segments : goal.returns-then-segment-segments
 returns-then-segment-segments c =
     let s = c.args.self.now in
     let f = c.args.segment in
-    ap Some (c.floor-read.ensures ∙ ap read_floor c.lane.ensures)
+    ap Some (c.floor_read.ensures ∙ ap read_floor c.lane.ensures)
     ∙ sym (ap (λ m. floor_of m f) (means_tape s (tape_from_segment s f _ c.segments.ensures c.if-segment-segments.true)) ∙ there f _ _ (in_lanes s f _ c.segments.ensures c.if-segment-segments.true))

@@ -25,5 +25,5 @@ pub returns : goal.returns
 returns c =
     let s = c.args.self.now in
     let f = c.args.segment in
-    ap Some (c.from-read.ensures ∙ ap (read_from s.places_count) c.lane.ensures)
+    ap Some (c.from_read.ensures ∙ ap (read_from s.places_count) c.lane.ensures)
     ∙ sym (ap (λ i. user_of (tape_meaning s) (tape_directory s) f i) c.if-index-ne0.false ∙ users_are s f _ 0 c.segments.ensures c.if-segments-segment.false)
