@@ -7,7 +7,7 @@ use Rattle.search.proofs.search.Goals as goal
 
 pub search_sheet-requires : goal.search_sheet-requires
 search_sheet-requires g c =
-    let K = g.Cost.Cost.kind in
+    let K = g.S.Cost.Cost.kind in
     let m = g.S.Site.meaning c.args.site.now in
     let n = c.places-places.result in
     let sheet = c.args.sheet.now in
@@ -22,7 +22,7 @@ search_sheet-requires g c =
 
 pub returns : goal.returns
 returns g c =
-    let K = g.Cost.Cost.kind in
+    let K = g.S.Cost.Cost.kind in
     let m = g.S.Site.meaning c.args.site.now in
     let n = c.places-places.result in
     let sheet = c.args.sheet.now in

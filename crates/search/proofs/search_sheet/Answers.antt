@@ -12,7 +12,7 @@ explore-opened-requires g c = record {
   named = c.requires.named;
   memory = (c.clear.auto.sheet ∙ c.requires.sheet, c.requires.memory.0);
   fresh = clear_fresh c.args.sheet.now c.clear.new.sheet c.clear.ensures;
-  sound = subst (Sound g.Cost.Cost.kind (g.S.Site.meaning c.args.site.now) c.args.target) (sym (clear_estimates c.args.sheet.now c.clear.new.sheet c.clear.ensures)) c.requires.sound;
+  sound = subst (Sound g.S.Cost.Cost.kind (g.S.Site.meaning c.args.site.now) c.args.target) (sym (clear_estimates c.args.sheet.now c.clear.new.sheet c.clear.ensures)) c.requires.sound;
 }
 
 pub offset_bounds-sheet-target : goal.offset_bounds-sheet-target
@@ -25,14 +25,14 @@ tell_route-count-requires g c =
     record {
       few = omega (arith, long, c.requires.lawful.places_few);
       place = omega (arith, long, c.requires.named.1);
-      leads = links_lead g.met.Cost.Cost.lawful g.met.Cost.PositiveCost.positive c.requires.lawful c.args.start c.requires.named.0 c.explore-opened.new.sheet _ c.explore-opened.ensures.linked long;
+      leads = links_lead g.met.S.Cost.Cost.lawful g.met.S.Cost.PositiveCost.positive c.requires.lawful c.args.start c.requires.named.0 c.explore-opened.new.sheet _ c.explore-opened.ensures.linked long;
       room = omega (arith, long, c.requires.memory.1);
     }
 
 pub raise-requires : goal.raise-requires
 raise-requires g c =
-    let K = g.Cost.Cost.kind in
-    let laws = g.met.Cost.Cost.lawful in
+    let K = g.S.Cost.Cost.kind in
+    let laws = g.met.S.Cost.Cost.lawful in
     let m = g.S.Site.meaning c.args.site.now in
     let sheet = c.explore-opened.new.sheet in
     let target = c.args.target in
@@ -40,13 +40,13 @@ raise-requires g c =
     let same = clear_estimates c.args.sheet.now c.clear.new.sheet c.clear.ensures in
     let listed : target < length sheet = omega (arith, c.requires.named.1) in
     record {
-      answer = subst (Within K) (sym (read_distance sheet target c.index-sheet-target.result listed c.index-sheet-target.is)) (answer_within laws g.met.Cost.PositiveCost.positive c.requires.lawful c.args.start target c.requires.named.0 c.requires.named.1 c.args.sheet.now (estimate_of c.clear.new.sheet) same sheet sheet c.explore-opened.result c.explore-opened.ensures long);
-      marked = marked_within laws g.met.Cost.PositiveCost.positive c.requires.lawful c.args.start target c.requires.named.0 c.requires.named.1 c.args.sheet.now (estimate_of c.clear.new.sheet) same sheet sheet c.explore-opened.result c.explore-opened.ensures long;
+      answer = subst (Within K) (sym (read_distance sheet target c.index-sheet-target.result listed c.index-sheet-target.is)) (answer_within laws g.met.S.Cost.PositiveCost.positive c.requires.lawful c.args.start target c.requires.named.0 c.requires.named.1 c.args.sheet.now (estimate_of c.clear.new.sheet) same sheet sheet c.explore-opened.result c.explore-opened.ensures long);
+      marked = marked_within laws g.met.S.Cost.PositiveCost.positive c.requires.lawful c.args.start target c.requires.named.0 c.requires.named.1 c.args.sheet.now (estimate_of c.clear.new.sheet) same sheet sheet c.explore-opened.result c.explore-opened.ensures long;
     }
 
 pub returns : goal.returns
 returns g c =
-    let laws = g.met.Cost.Cost.lawful in
+    let laws = g.met.S.Cost.Cost.lawful in
     let m = g.S.Site.meaning c.args.site.now in
     let sheet = c.explore-opened.new.sheet in
     let target = c.args.target in
@@ -54,5 +54,5 @@ returns g c =
     let long : length sheet ≡ m.places = c.explore-opened.auto.sheet ∙ c.clear.auto.sheet ∙ c.requires.sheet in
     let same = clear_estimates c.args.sheet.now c.clear.new.sheet c.clear.ensures in
     let listed : target < length sheet = omega (arith, c.requires.named.1) in
-    searched_all laws g.met.Cost.PositiveCost.positive c.requires.lawful c.args.start target c.requires.named.0 c.requires.named.1 c.args.sheet.now (estimate_of c.clear.new.sheet) same sheet c.raise.new.sheet c.explore-opened.result c.explore-opened.ensures long
+    searched_all laws g.met.S.Cost.PositiveCost.positive c.requires.lawful c.args.start target c.requires.named.0 c.requires.named.1 c.args.sheet.now (estimate_of c.clear.new.sheet) same sheet c.raise.new.sheet c.explore-opened.result c.explore-opened.ensures long
     (get_or sheet target old).distance (read_distance sheet target old listed c.index-sheet-target.is) c.raise.ensures c.args.list.now c.tell_route-count.new.list c.tell_route-count.result c.tell_route-count.ensures

@@ -6,4 +6,4 @@ pub returns : goal.returns
 returns g c =
     let b = c.args.self.now in
     let same : c.min-count.result - 0 ≡ min b.count most_bars = omega (arith, c.min-count.ensures) in
-    c.is-among.ensures ∙ ap (λ n. among (take n b.numbers) c.args.segment) same
+    c.is_among.ensures ∙ ap (λ n. among (take n b.numbers) c.args.segment) same

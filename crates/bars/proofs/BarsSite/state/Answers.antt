@@ -5,7 +5,7 @@ use Rattle.bars.proofs.UnderBars.{barred_some, barred_none, unbarred}
 use Rattle.bars.proofs.BarsSite.state.Goals as goal
 
 pub returns-in-Some : goal.returns-in-Some
-returns-in-Some g c = barred_some _ _ _ _ _ (sym c.if-is-barred.ensures) (sym c.in-Some.ensures)
+returns-in-Some g c = barred_some _ _ _ _ _ (sym c.if-is_barred.ensures) (sym c.in-Some.ensures)
 
 pub returns-in-None : goal.returns-in-None
 returns-in-None g c =
@@ -13,5 +13,5 @@ returns-in-None g c =
     let m = g.S.Site.meaning (below b) in
     barred_none (ltb c.args.segment m.segments) (among (barred b) c.args.segment) Infinite (m.state c.args.segment) (sym c.in-None.ensures)
 
-pub returns-else-is-barred : goal.returns-else-is-barred
-returns-else-is-barred g c = unbarred _ _ _ _ _ (sym c.if-is-barred.ensures) c.state-below.ensures
+pub returns-else-is_barred : goal.returns-else-is_barred
+returns-else-is_barred g c = unbarred _ _ _ _ _ (sym c.if-is_barred.ensures) c.state-below.ensures

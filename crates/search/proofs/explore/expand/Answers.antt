@@ -11,21 +11,21 @@ pub offset_bounds-sheet-from : goal.offset_bounds-sheet-from
 offset_bounds-sheet-from g c = let h : c.args.from < length c.args.sheet.now = omega (arith, c.requires.ready.long, c.requires.place) in search rules
 
 pub loop-way-init : goal.loop-way-init
-loop-way-init g c = ((omega arith), swept_none g.met.Cost.Cost.lawful (g.S.Site.meaning c.args.site.now) c.args.from c.args.sheet.now c.args.queue.now c.args.len c.requires.ready.queue)
+loop-way-init g c = ((omega arith), swept_none g.met.S.Cost.Cost.lawful (g.S.Site.meaning c.args.site.now) c.args.from c.args.sheet.now c.args.queue.now c.args.len c.requires.ready.queue)
 
 pub cost_over-cost-requires : goal.cost_over-cost-requires
-cost_over-cost-requires g c = segment_there g.met.Cost.Cost.lawful c.requires.lawful c.args.from c.loop-way.index c.requires.place c.in-Some.way c.in-Some.ensures
+cost_over-cost-requires g c = segment_there g.met.S.Cost.Cost.lawful c.requires.lawful c.args.from c.loop-way.index c.requires.place c.in-Some.way c.in-Some.ensures
 
 pub plus-requires : goal.plus-requires
 plus-requires g c = (
-  subst (Within g.Cost.Cost.kind) (sym (read_distance c.args.sheet.now c.args.from c.index-sheet-from.result (omega (arith, c.requires.ready.long, c.requires.place)) c.index-sheet-from.is)) c.requires.within,
-  subst (Within g.Cost.Cost.kind) (sym c.cost_over-cost.ensures) (state_within g.met.Cost.Cost.lawful c.requires.lawful c.args.from c.loop-way.index c.requires.place c.in-Some.way c.in-Some.ensures),
+  subst (Within g.S.Cost.Cost.kind) (sym (read_distance c.args.sheet.now c.args.from c.index-sheet-from.result (omega (arith, c.requires.ready.long, c.requires.place)) c.index-sheet-from.is)) c.requires.within,
+  subst (Within g.S.Cost.Cost.kind) (sym c.cost_over-cost.ensures) (state_within g.met.S.Cost.Cost.lawful c.requires.lawful c.args.from c.loop-way.index c.requires.place c.in-Some.way c.in-Some.ensures),
 )
 
 pub relax-len-requires : goal.relax-len-requires
 relax-len-requires g c =
-    let K = g.Cost.Cost.kind in
-    let laws = g.met.Cost.Cost.lawful in
+    let K = g.S.Cost.Cost.kind in
+    let laws = g.met.S.Cost.Cost.lawful in
     let m = g.S.Site.meaning c.args.site.now in
     let x = c.args.from in
     let w = c.in-Some.way in
@@ -45,15 +45,15 @@ relax-len-requires g c =
     }
 
 pub overflow_add-index : goal.overflow_add-index
-overflow_add-index g c = let h = few g.met.Cost.Cost.lawful c.requires.lawful c.args.from c.loop-way.index c.requires.place c.in-Some.way c.in-Some.ensures in search rules
+overflow_add-index g c = let h = few g.met.S.Cost.Cost.lawful c.requires.lawful c.args.from c.loop-way.index c.requires.place c.in-Some.way c.in-Some.ensures in search rules
 
 pub loop-way-smaller : goal.loop-way-smaller
 loop-way-smaller g c = let h = way_there (g.S.Site.meaning c.args.site.now) c.args.from c.loop-way.index c.requires.place c.in-Some.way c.in-Some.ensures in omega arith
 
 pub loop-way-preserved : goal.loop-way-preserved
 loop-way-preserved g c =
-    let K = g.Cost.Cost.kind in
-    let laws = g.met.Cost.Cost.lawful in
+    let K = g.S.Cost.Cost.kind in
+    let laws = g.met.S.Cost.Cost.lawful in
     let m = g.S.Site.meaning c.args.site.now in
     let x = c.args.from in
     let i = c.loop-way.index in
@@ -72,4 +72,4 @@ pub returns : goal.returns
 returns g c =
     let m = g.S.Site.meaning c.args.site.now in
     let done = ways_done m c.args.from c.loop-way.index c.requires.place c.in_default.ensures in
-    subst (λ ws. Swept g.Cost.Cost.kind m c.args.from ws c.args.sheet.now c.loop-way.sheet c.args.queue.now c.loop-way.queue c.args.len c.loop-way.len) (take_all c.loop-way.index (m.ways c.args.from) done) c.loop-way.invariant.1
+    subst (λ ws. Swept g.S.Cost.Cost.kind m c.args.from ws c.args.sheet.now c.loop-way.sheet c.args.queue.now c.loop-way.queue c.args.len c.loop-way.len) (take_all c.loop-way.index (m.ways c.args.from) done) c.loop-way.invariant.1

@@ -10,7 +10,7 @@ offset_bounds-sheet-place g c = let h : c.args.place < length c.args.sheet.now =
 
 pub expand-requires : goal.expand-requires
 expand-requires g c =
-    let K = g.Cost.Cost.kind in
+    let K = g.S.Cost.Cost.kind in
     let m = g.S.Site.meaning c.args.site.now in
     let sheet = c.args.sheet.now in
     let p = c.args.place in
@@ -30,4 +30,4 @@ returns g c =
     let sheet = c.args.sheet.now in
     let p = c.args.place in
     let listed : p < length sheet = omega (arith, c.requires.ready.long, c.requires.place) in
-    subst (λ t. Swept g.Cost.Cost.kind m p (m.ways p) t c.expand.new.sheet c.args.queue.now c.expand.new.queue c.args.len c.expand.result) (mark_written sheet p c.index-sheet-place.result listed c.index-sheet-place.is) c.expand.ensures
+    subst (λ t. Swept g.S.Cost.Cost.kind m p (m.ways p) t c.expand.new.sheet c.args.queue.now c.expand.new.queue c.args.len c.expand.result) (mark_written sheet p c.index-sheet-place.result listed c.index-sheet-place.is) c.expand.ensures
