@@ -8,23 +8,23 @@ use Rattle.sheet.proofs.Filling.{filled_none, filled_more, filled_ahead}
 use Rattle.site.proofs.Answering.{hint_there}
 use Rattle.planner.proofs.Standing.{turned}
 use Rattle.planner.proofs.passes.turn_estimates.Goals as goal
-use Rattle.planner.proofs.passes.turn_estimates.Goals.{in-Some, in-default}
+use Rattle.planner.proofs.passes.turn_estimates.Goals.{in-Some, in_default}
 
-pub offset-bounds-sheet-target : goal.offset-bounds-sheet-target
-offset-bounds-sheet-target g c = let h : c.args.target < length c.args.sheet.now = omega (arith, c.requires.room, c.requires.target) in search rules
+pub offset_bounds-sheet-target : goal.offset_bounds-sheet-target
+offset_bounds-sheet-target g c = let h : c.args.target < length c.args.sheet.now = omega (arith, c.requires.room, c.requires.target) in search rules
 
 pub loop-place-init : goal.loop-place-init
-loop-place-init g c = filled_none (retargeted g.Cost.Cost.kind (g.S.Site.meaning c.args.site.now) c.args.target (estimate_of c.args.sheet.now)) c.args.sheet.now
+loop-place-init g c = filled_none (retargeted g.S.Cost.Cost.kind (g.S.Site.meaning c.args.site.now) c.args.target (estimate_of c.args.sheet.now)) c.args.sheet.now
 
-pub offset-bounds-sheet-place : goal.offset-bounds-sheet-place
-offset-bounds-sheet-place g c = let h : c.loop-place.place < length c.args.sheet.now = omega (arith, c.requires.room, c.places-places.ensures.count) in search rules
+pub offset_bounds-sheet-place : goal.offset_bounds-sheet-place
+offset_bounds-sheet-place g c = let h : c.loop-place.place < length c.args.sheet.now = omega (arith, c.requires.room, c.places-places.ensures.count) in search rules
 
-pub offset-bounds-sheet-place-in-Some : goal.offset-bounds-sheet-place-in-Some
-offset-bounds-sheet-place-in-Some g c = let h : c.loop-place.place < length c.args.sheet.now = omega (arith, c.requires.room, c.places-places.ensures.count) in search rules
+pub offset_bounds-sheet-place-in-Some : goal.offset_bounds-sheet-place-in-Some
+offset_bounds-sheet-place-in-Some g c = let h : c.loop-place.place < length c.args.sheet.now = omega (arith, c.requires.room, c.places-places.ensures.count) in search rules
 
 pub minus-requires : goal.minus-requires
 minus-requires g c =
-    let K = g.Cost.Cost.kind in
+    let K = g.S.Cost.Cost.kind in
     let m = g.S.Site.meaning c.args.site.now in
     let n = c.args.target in
     let place = c.loop-place.place in
@@ -39,7 +39,7 @@ minus-requires g c =
 
 pub loop-place-preserved : goal.loop-place-preserved
 loop-place-preserved g c =
-    let K = g.Cost.Cost.kind in
+    let K = g.S.Cost.Cost.kind in
     let m = g.S.Site.meaning c.args.site.now in
     let n = c.args.target in
     let place = c.loop-place.place in
@@ -59,11 +59,11 @@ loop-place-preserved g c =
           let is = turned K m n (estimate_of before) place w.in-Some.hint old.estimate (get_or before n c.index-sheet-target.result).estimate w.minus.result v hint here there w.minus.ensures w.max-estimate.ensures in
           subst (Filled e (place + 1) before) (sym (w.sheet-is ∙ ap (λ t. set sheet place (with_estimate t v)) w.index-sheet-place.is))
           (filled_more e place before sheet c.loop-place.invariant listed old v is)
-      | in-default w ↦ absurd (w.in-default.not-Some _ got)
+      | in_default w ↦ absurd (w.in_default.not-Some _ got)
     ]
 
 pub returns : goal.returns
 returns g c =
-    let K = g.Cost.Cost.kind in
+    let K = g.S.Cost.Cost.kind in
     let m = g.S.Site.meaning c.args.site.now in
     subst (λ n. Filled (retargeted K m c.args.target (estimate_of c.args.sheet.now)) n c.args.sheet.now c.loop-place.sheet) (let e : c.loop-place.place ≡ m.places = omega (arith, c.places-places.ensures.count) in e) c.loop-place.invariant
