@@ -19,9 +19,9 @@ is-way-consistent-requires g c =
 
 pub returns-then-not-is-way-consistent : goal.returns-then-not-is-way-consistent
 returns-then-not-is-way-consistent g c =
-    fine_not g.Cost.Cost.kind (g.S.Site.meaning c.args.site.now) c.args.sheet.now c.args.place c.loop-way.index c.in-Some.way c.in-Some.ensures (sym c.if-not-is-way-consistent.ensures)
+    fine_not g.S.Cost.Cost.kind (g.S.Site.meaning c.args.site.now) c.args.sheet.now c.args.place c.loop-way.index c.in-Some.way c.in-Some.ensures (sym c.if-not-is-way-consistent.ensures)
 
 pub returns : goal.returns
 returns g c =
     let m = g.S.Site.meaning c.args.site.now in
-    ways_each m (FineWay g.Cost.Cost.kind m c.args.sheet.now c.args.place) c.args.place c.loop-way.index (c.in-default.ensures c.requires.place) c.loop-way.invariant.1
+    ways_each m (FineWay g.S.Cost.Cost.kind m c.args.sheet.now c.args.place) c.args.place c.loop-way.index (c.in-default.ensures c.requires.place) c.loop-way.invariant.1

@@ -9,30 +9,30 @@ use Rattle.soundness.proofs.is_sound.Goals.{then-not-is-at-most-via-then-not-is-
 
 pub returns-then-not-is-at-most : goal.returns-then-not-is-at-most
 returns-then-not-is-at-most g c sound =
-    let K = g.Cost.Cost.kind in
+    let K = g.S.Cost.Cost.kind in
     let sheet = c.args.sheet.now in
     let t = c.args.target in
     let inside : t < length sheet = omega (arith, c.requires.target, c.requires.room) in
     let same : length_le K (estimate_of sheet t) (origin K) ≡ length_le K (get_or sheet t c.index-sheet-target.result).estimate c.zero.result = ap (λ x. length_le K x.estimate (origin K)) (get_or_default sheet t blank c.index-sheet-target.result inside) ∙ ap (length_le K (get_or sheet t c.index-sheet-target.result).estimate) (sym c.zero.ensures) in
     elim c.then-not-is-at-most.branch [
-      | then-not-is-at-most-via-then-not-is-at-most w ↦ true≢false (sym (zero_tells g.met.Cost.Cost.lawful (estimate_of sheet t) sound.target_zero) ∙ same ∙ sym c.is-at-most.ensures ∙ w.if-not-is-at-most.true)
+      | then-not-is-at-most-via-then-not-is-at-most w ↦ true≢false (sym (zero_tells g.met.S.Cost.Cost.lawful (estimate_of sheet t) sound.target_zero) ∙ same ∙ sym c.is-at-most.ensures ∙ w.if-not-is-at-most.true)
       | then-not-is-at-most-via-else-not-is-at-most+then-not-are-within w ↦
           w.if-not-are-within.ensures (subst (λ n. AllWithin K n sheet) (sym c.places-places.ensures.count) sound.within)
     ]
 
 pub returns-then-not-are-ways-consistent : goal.returns-then-not-are-ways-consistent
 returns-then-not-are-ways-consistent g c sound =
-    c.if-not-are-ways-consistent.ensures (sound_from g.met.Cost.Cost.lawful c.places-places.ensures.lawful c.args.target c.args.sheet.now sound c.loop-place.place (omega (arith, c.places-places.ensures.count)))
+    c.if-not-are-ways-consistent.ensures (sound_from g.met.S.Cost.Cost.lawful c.places-places.ensures.lawful c.args.target c.args.sheet.now sound c.loop-place.place (omega (arith, c.places-places.ensures.count)))
 
 pub returns : goal.returns
 returns g c =
-    let K = g.Cost.Cost.kind in
+    let K = g.S.Cost.Cost.kind in
     let m = g.S.Site.meaning c.args.site.now in
     let sheet = c.args.sheet.now in
     let t = c.args.target in
     let inside : t < length sheet = omega (arith, c.requires.target, c.requires.room) in
     let same : length_le K (estimate_of sheet t) (origin K) ≡ length_le K (get_or sheet t c.index-sheet-target.result).estimate c.zero.result = ap (λ x. length_le K x.estimate (origin K)) (get_or_default sheet t blank c.index-sheet-target.result inside) ∙ ap (length_le K (get_or sheet t c.index-sheet-target.result).estimate) (sym c.zero.ensures) in
     let zero : length_le K (estimate_of sheet t) (origin K) ≡ true = same ∙ sym c.is-at-most.ensures ∙ c.if-not-is-at-most.false in
-    sound_made g.met.Cost.Cost.lawful c.places-places.ensures.lawful t sheet zero
+    sound_made g.met.S.Cost.Cost.lawful c.places-places.ensures.lawful t sheet zero
     (subst (λ n. AllWithin K n sheet) c.places-places.ensures.count c.if-not-are-within.ensures)
     (λ s h. c.loop-place.invariant s (omega (arith, c.places-places.ensures.count)))
