@@ -3,8 +3,8 @@ use Rattle.site.proofs.WaysOut.{way_found, ways_each}
 use Rattle.soundness.proofs.Checking.{FineWay, fine_not}
 use Rattle.soundness.proofs.are_ways_consistent.Goals as goal
 
-pub is-way-consistent-requires : goal.is-way-consistent-requires
-is-way-consistent-requires g c =
+pub is_way_consistent-requires : goal.is_way_consistent-requires
+is_way_consistent-requires g c =
     let m = g.S.Site.meaning c.args.site.now in
     let s = c.args.place in
     let w = c.in-Some.way in
@@ -17,11 +17,11 @@ is-way-consistent-requires g c =
       within = c.requires.within w.end end;
     }
 
-pub returns-then-not-is-way-consistent : goal.returns-then-not-is-way-consistent
-returns-then-not-is-way-consistent g c =
-    fine_not g.S.Cost.Cost.kind (g.S.Site.meaning c.args.site.now) c.args.sheet.now c.args.place c.loop-way.index c.in-Some.way c.in-Some.ensures (sym c.if-not-is-way-consistent.ensures)
+pub returns-then-not-is_way_consistent : goal.returns-then-not-is_way_consistent
+returns-then-not-is_way_consistent g c =
+    fine_not g.S.Cost.Cost.kind (g.S.Site.meaning c.args.site.now) c.args.sheet.now c.args.place c.loop-way.index c.in-Some.way c.in-Some.ensures (sym c.if-not-is_way_consistent.ensures)
 
 pub returns : goal.returns
 returns g c =
     let m = g.S.Site.meaning c.args.site.now in
-    ways_each m (FineWay g.S.Cost.Cost.kind m c.args.sheet.now c.args.place) c.args.place c.loop-way.index (c.in-default.ensures c.requires.place) c.loop-way.invariant.1
+    ways_each m (FineWay g.S.Cost.Cost.kind m c.args.sheet.now c.args.place) c.args.place c.loop-way.index (c.in_default.ensures c.requires.place) c.loop-way.invariant.1
