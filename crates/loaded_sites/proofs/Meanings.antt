@@ -1,5 +1,5 @@
 -- Tables in front of which a description stands. Assumes nothing.
-use Rattle.std.proofs.Common.{◌≡◌, ℕ, ◌+◌, ◌*◌, ◌<◌, ◌≤◌, true, List, ◌++◌, length, take, drop, sym, refl, ap, ◌∙◌, subst, arith, length-append}
+use Rattle.std.proofs.Common.{◌≡◌, ℕ, ◌+◌, ◌*◌, ◌<◌, ◌≤◌, true, List, ◌++◌, length, take, drop, sym, ap, ◌∙◌, subst, arith, length-append}
 use lib.Seq.{take-append-le}
 use Rattle.std.proofs.lemmas.List.{take_at, get_or_append_left}
 use Rattle.cost.specs.CrossingsFirst.{pair}
@@ -9,8 +9,8 @@ use Rattle.tables.specs.declared.tape.Lane.{Lane}
 use Rattle.tables.specs.declared.tape.TapeHead.{TapeHead}
 use Rattle.tables.specs.Floors.{FloorDescription, KeepsRanges}
 use Rattle.tables.specs.Tapes.{no_place, no_lane, place_at, lane_at, leaving, larger_difference, most_leaving, is_place, SoundLane, SoundTape}
-use Rattle.sitefile.specs.Tapes.{TapeDescription, tape_head}
-use Rattle.sitefile.specs.Sites.{Tables, a_floor, a_tape}
+use Rattle.sitefile.specs.Tapes.{tape_head}
+use Rattle.sitefile.specs.Sites.{a_floor, a_tape}
 use Rattle.floor.specs.Floors.{SoundFloor, cells_of}
 use Rattle.floor.specs.Grids.{grid}
 use Rattle.tape.specs.TapeSites.{cost_of, length_of, tape_site}

@@ -1,12 +1,12 @@
 -- What holds of a planner and its sheet while a call is granted. Assumes nothing.
-use Rattle.std.proofs.Common.{◌≡◌, ℕ, ◌<◌, Bool, true, false, ◌&&◌, ltb, List, length, get_or, take, sym, refl, ap, ◌∙◌, subst, arith}
+use Rattle.std.proofs.Common.{◌≡◌, ℕ, ◌<◌, true, List, take, sym, ap, ◌∙◌, subst, arith}
 use Rattle.std.proofs.lemmas.List.{get_or-take}
 use Rattle.std.proofs.lemmas.Bool.Decides.{nat_tests}
 use Rattle.cost.specs.declared.lengths.Length.{Length}
-use Rattle.cost.specs.declared.lengths.Length.TheVariants.{Finite, Infinite}
+use Rattle.cost.specs.declared.lengths.Length.TheVariants.{Finite}
 use Rattle.cost.specs.Costs.{Kind}
 use Rattle.cost.specs.Lengths.{AtMost, Within, sum, greater, remainder}
-use Rattle.routes.specs.Sites.{Meaning, Way, Lawful}
+use Rattle.routes.specs.Sites.{Meaning, Lawful}
 use Rattle.routes.specs.Estimates.{Sound, retargeted}
 use Rattle.sheet.specs.declared.Entry.{Entry}
 use Rattle.sheet.specs.Sheets.{blank, estimate_of}

@@ -1,5 +1,5 @@
 -- What the calls of a planner answer and leave. Assumes nothing.
-use Rattle.std.specs.Prelude.{◌≡◌, ℕ, ◌<◌, ◌≤◌, Bool, true, false, ◌&&◌, ◌⊎◌, List, length, take, drop, Ok, Err, Result, nat_lt}
+use Rattle.std.specs.Prelude.{◌≡◌, ℕ, ◌<◌, ◌≤◌, Bool, true, ◌&&◌, ◌⊎◌, List, length, take, drop, Ok, Err, Result, nat_lt}
 use Rattle.cost.specs.Costs.{Kind}
 use Rattle.routes.specs.Sites.{Meaning}
 use Rattle.routes.specs.Estimates.{opened, retargeted, Sound}

@@ -1,14 +1,12 @@
 -- A distance found is the sum of at most 4,095 segment costs, so within the ceiling. Assumes nothing.
-use Rattle.std.proofs.Common.{◌≡◌, ℕ, ◌+◌, ◌<◌, ◌≤◌, Bool, true, false, not, eqb, ◌⊎◌, List, [], ◌∷◌, length, sym, refl, ap, ◌∙◌, subst, inl, inr, ⊎_elim, true≢false, arith}
+use Rattle.std.proofs.Common.{◌≡◌, ℕ, ◌+◌, ◌<◌, Bool, true, false, not, eqb, ◌∷◌, sym, refl, ap, ◌∙◌, subst, ⊎_elim, true≢false, arith}
 use mathlib.Core.Bool.{false≢true}
-use Rattle.std.proofs.lemmas.Bool.{cases_eq, cases_Bool, eq-eqb, ne_eqb, eqb-true}
+use Rattle.std.proofs.lemmas.Bool.{cases_eq, eq-eqb, ne_eqb}
 use Rattle.cost.specs.Costs.{Kind, Laws, Positive}
 use Rattle.cost.specs.Lengths.{AtMost, Within, length_le, sum}
 use Rattle.routes.specs.Sites.{Meaning, Way, Lawful}
-use Rattle.routes.specs.Counts.{count}
 use Rattle.routes.specs.Loops.{Searching, Linked}
 use Rattle.cost.specs.declared.lengths.Length.{Length}
-use Rattle.cost.specs.declared.lengths.Length.TheVariants.{Finite, Infinite}
 use Rattle.cost.proofs.LengthLemmas.{at_most_trans, at_most_refl, at_most_of_not, at_most_sum_left}
 use Rattle.cost.proofs.LengthLemmas.{sum_finite}
 use Rattle.routes.proofs.Distances.{cost_segments}

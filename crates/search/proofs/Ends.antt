@@ -1,15 +1,15 @@
 -- From the last opening to the answer: the route by the links, and the estimates. Assumes nothing.
-use Rattle.std.proofs.Common.{◌≡◌, ℕ, zero, suc, ◌+◌, ◌<◌, ◌≤◌, Bool, true, false, cond, ◌⊎◌, List, [], ◌∷◌, ◌++◌, length, get_or, drop, sym, refl, ap, ◌∙◌, subst, inl, inr, ⊎_elim, arith, length-append}
+use Rattle.std.proofs.Common.{◌≡◌, ℕ, zero, suc, ◌+◌, ◌<◌, Bool, true, false, cond, List, [], ◌∷◌, length, get_or, sym, refl, ap, ◌∙◌, subst, ⊎_elim, arith, length-append}
 use Rattle.std.proofs.lemmas.Bool.{cases_Bool, cond-true, cond-false}
 use Rattle.cost.specs.Costs.{Kind, Laws, Positive}
-use Rattle.cost.specs.Lengths.{AtMost, Within, length_le, sum, remainder, greater, origin}
+use Rattle.cost.specs.Lengths.{Within, length_le, remainder, greater, origin}
 use Rattle.routes.specs.Sites.{Meaning, Lawful}
 use Rattle.routes.specs.Routes.{distance, step, Route, route_cost}
-use Rattle.routes.specs.Estimates.{searched, Sound}
+use Rattle.routes.specs.Estimates.{searched}
 use Rattle.routes.specs.Counts.{count}
 use Rattle.routes.specs.Loops.{Linked, Along, Outcome}
 use Rattle.cost.specs.declared.lengths.Length.{Length}
-use Rattle.cost.specs.declared.lengths.Length.TheVariants.{Finite, Infinite}
+use Rattle.cost.specs.declared.lengths.Length.TheVariants.{Finite}
 use Rattle.cost.proofs.LengthLemmas.{sum_finite}
 use Rattle.routes.proofs.Distances.{last, finite_route, last_append, distance_within}
 use Rattle.routes.proofs.Links.{step_greater, push_found, along_append}
@@ -18,8 +18,8 @@ use Rattle.sheet.specs.Sheets.{blank, estimate_of, distance_of, link_of, mark_of
 use Rattle.search.specs.Exploring.{Fresh, Explored}
 use Rattle.search.specs.Passes.{cleared, raised}
 use Rattle.sheet.specs.Sheets.{with_estimate}
-use Rattle.search.specs.Trails.{walk, trail, Led, LinksBack, Walked}
-use Rattle.search.specs.Searches.{Written, Told, Searched}
+use Rattle.search.specs.Trails.{walk, trail, LinksBack}
+use Rattle.search.specs.Searches.{Told, Searched}
 
 pub trail_length : (link : ℕ → ℕ) (k s : ℕ) → length (trail link k s) ≡ k
 unfolding trail

@@ -1,26 +1,25 @@
 -- One more place is opened; and the two ends. Assumes nothing.
-use Rattle.std.proofs.Common.{◌≡◌, ℕ, zero, suc, ◌+◌, ◌-◌, ◌<◌, ◌≤◌, Bool, true, false, cond, ◌⊎◌, List, length, get_or, sym, refl, ap, ◌∙◌, subst, inl, inr, ⊎_elim, true≢false, not-suc-le-zero, arith}
-use mathlib.Core.Bool.{false≢true}
+use Rattle.std.proofs.Common.{◌≡◌, ℕ, zero, suc, ◌+◌, ◌-◌, ◌<◌, Bool, true, false, cond, ◌⊎◌, List, length, sym, refl, ap, ◌∙◌, subst, inl, inr, ⊎_elim, true≢false, not-suc-le-zero, arith}
 use Rattle.std.proofs.lemmas.Bool.{cases_eq, cases_Bool}
 use Rattle.cost.specs.Costs.{Kind, Laws, Positive}
-use Rattle.cost.specs.Lengths.{AtMost, Within, length_le, sum, lesser, origin}
-use Rattle.routes.specs.Sites.{Meaning, Way, Lawful}
+use Rattle.cost.specs.Lengths.{AtMost, length_le, sum, lesser}
+use Rattle.routes.specs.Sites.{Meaning, Lawful}
 use Rattle.routes.specs.Routes.{distance, step}
 use Rattle.routes.specs.Estimates.{Sound}
 use Rattle.routes.specs.Counts.{count}
-use Rattle.routes.specs.Loops.{Searching, Least, Expands, Linked, Relinks, Opening, Outcome}
+use Rattle.routes.specs.Loops.{Searching, Least, Expands, Relinks}
 use Rattle.cost.specs.declared.lengths.Length.{Length}
 use Rattle.cost.specs.declared.lengths.Length.TheVariants.{Finite, Infinite}
-use Rattle.cost.proofs.LengthLemmas.{at_most_trans, at_most_refl, at_most_of_eq, at_most_infinite, sum_origin, sum_infinite, last_or_below, tested, infinite_not_finite}
+use Rattle.cost.proofs.LengthLemmas.{at_most_trans, at_most_of_eq, at_most_infinite, sum_origin, sum_infinite, last_or_below}
 use Rattle.cost.proofs.LengthLemmas.{length_cases}
-use Rattle.routes.proofs.Search.{least_final, target_final, none_left, searching_turn, searching_start}
+use Rattle.routes.proofs.Search.{least_final, target_final, none_left, searching_turn}
 use Rattle.routes.proofs.Counts.{count_strict, count_all}
 use Rattle.routes.proofs.Links.{links_turn}
 use Rattle.routes.proofs.Outcomes.{opening_turn, outcome_found, outcome_none}
 use Rattle.sheet.specs.declared.Entry.{Entry}
-use Rattle.sheet.specs.Sheets.{blank, estimate_of, distance_of, link_of, mark_of, sum_of, by_sum, Summable}
-use Rattle.queue.specs.Heap.{entries, In, Queue, Popped}
-use Rattle.search.specs.Exploring.{Ready, Improves, Swept, mark_place, Exploring, Explored}
+use Rattle.sheet.specs.Sheets.{distance_of, link_of, mark_of, sum_of, by_sum, Summable}
+use Rattle.queue.specs.Heap.{entries, In, Popped}
+use Rattle.search.specs.Exploring.{Improves, Swept, mark_place, Exploring, Explored}
 use Rattle.search.proofs.Marks.{mark_distance, mark_estimate, mark_link, mark_here, mark_other}
 use Rattle.search.proofs.Ceilings.{found_within}
 

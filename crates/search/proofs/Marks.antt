@@ -1,5 +1,5 @@
 -- A mark leaves the distances, the estimates, the links and the queue. Assumes nothing.
-use Rattle.std.proofs.Common.{◌≡◌, ℕ, ◌<◌, ◌≤◌, Bool, true, false, ◌⊎◌, List, length, get_or, set, sym, refl, ap, ◌∙◌, subst, ⊎_elim, arith, length-set, get_or-set_other, get_or-set_same}
+use Rattle.std.proofs.Common.{◌≡◌, ℕ, ◌<◌, true, List, length, get_or, set, sym, ap, ◌∙◌, subst, ⊎_elim, arith, length-set, get_or-set_other, get_or-set_same}
 use Rattle.std.proofs.lemmas.List.{get_or_read}
 use Rattle.std.proofs.lemmas.Bool.{cases_eq}
 use Rattle.cost.specs.Costs.{Kind}
@@ -7,7 +7,6 @@ use Rattle.cost.specs.Lengths.{Within, length_le, sum}
 use Rattle.routes.specs.Sites.{Meaning}
 use Rattle.sheet.specs.declared.Entry.{Entry}
 use Rattle.sheet.specs.Sheets.{blank, estimate_of, distance_of, link_of, mark_of, sum_of, by_sum, Summable}
-use Rattle.queue.specs.Heap.{Queue}
 use Rattle.queue.proofs.Keys.{rekeyed}
 use Rattle.search.specs.Exploring.{Ready, Improves, with_mark, mark_place}
 

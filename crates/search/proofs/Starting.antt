@@ -1,17 +1,16 @@
 -- Before the first opening the start alone has a distance. Assumes nothing.
-use Rattle.std.proofs.Common.{◌≡◌, ℕ, ◌+◌, ◌<◌, ◌≤◌, Bool, true, false, ◌⊎◌, List, length, get_or, sym, refl, ap, ◌∙◌, subst, inl, inr, ⊎_elim, true≢false, arith}
+use Rattle.std.proofs.Common.{◌≡◌, ℕ, ◌<◌, true, false, ◌⊎◌, List, sym, refl, ap, ◌∙◌, subst, inl, inr, ⊎_elim}
 use mathlib.Core.Bool.{false≢true}
 use Rattle.std.proofs.lemmas.Bool.{cases_eq}
 use Rattle.cost.specs.Costs.{Kind, Laws}
-use Rattle.cost.specs.Lengths.{length_le, sum, lesser, origin}
+use Rattle.cost.specs.Lengths.{sum, lesser, origin}
 use Rattle.routes.specs.Sites.{Meaning, Lawful}
-use Rattle.routes.specs.Counts.{count}
 use Rattle.cost.specs.declared.lengths.Length.{Length}
 use Rattle.cost.specs.declared.lengths.Length.TheVariants.{Finite, Infinite}
 use Rattle.cost.proofs.LengthLemmas.{infinite_not_finite, sum_infinite}
 use Rattle.routes.proofs.Search.{searching_start}
 use Rattle.sheet.specs.declared.Entry.{Entry}
-use Rattle.sheet.specs.Sheets.{blank, estimate_of, distance_of, link_of, mark_of, sum_of, by_sum, Summable, Relaxed}
+use Rattle.sheet.specs.Sheets.{estimate_of, distance_of, mark_of, sum_of, Relaxed}
 use Rattle.queue.specs.Heap.{entries, In}
 use Rattle.search.specs.Exploring.{Fresh, Exploring}
 use Rattle.search.proofs.Exploration.{count_none}

@@ -1,25 +1,22 @@
 -- One way more is relaxed. Assumes nothing.
-use Rattle.std.proofs.Common.{◌≡◌, ℕ, zero, suc, ◌+◌, ◌<◌, ◌≤◌, Bool, true, false, cond, eqb, ltb, ◌⊎◌, List, [], ◌∷◌, ◌++◌, length, get_or, take, Some, None, Option, sym, refl, ap, ◌∙◌, subst, inl, inr, ⊎_elim, true≢false, not-suc-le-zero, arith}
-use mathlib.Core.List.{Memᴰ}
-use Rattle.std.specs.List.{slice_get}
-use Rattle.std.proofs.lemmas.Option.{slice_get-get_or, slice_get_past}
-use Rattle.std.proofs.lemmas.Bool.{cases_eq, cases_Bool, cases_lt, cond-true, cond-false, eq-eqb, ne_eqb, lt-ltb}
+use Rattle.std.proofs.Common.{◌≡◌, ℕ, ◌+◌, ◌<◌, ◌≤◌, true, false, eqb, ◌⊎◌, List, [], ◌∷◌, ◌++◌, length, get_or, take, Some, None, sym, refl, ap, ◌∙◌, subst, inl, inr, ⊎_elim, true≢false, arith}
+use Rattle.std.proofs.lemmas.Bool.{cases_eq, cases_Bool, cond-true, cond-false, eq-eqb, ne_eqb}
 use Rattle.cost.specs.Costs.{Kind, Laws}
 use Rattle.cost.specs.Lengths.{AtMost, Within, length_le, sum, lesser, least}
 use Rattle.routes.specs.Sites.{Meaning, Way, Lawful}
 use Rattle.routes.specs.Routes.{way_to}
 use Rattle.cost.specs.declared.lengths.Length.{Length}
-use Rattle.cost.specs.declared.lengths.Length.TheVariants.{Finite, Infinite}
-use Rattle.cost.proofs.LengthLemmas.{at_most_trans, at_most_antisym, at_most_of_eq, at_most_refl, at_most_infinite, lesser_left, lesser_right, le_lesser, lesser_of_le, lesser_comm, lesser_assoc, sum_lesser, sum_infinite, least_push, tested, within_infinite, within_finite}
+use Rattle.cost.specs.declared.lengths.Length.TheVariants.{Infinite}
+use Rattle.cost.proofs.LengthLemmas.{at_most_trans, at_most_antisym, at_most_of_eq, at_most_refl, at_most_infinite, lesser_left, lesser_right, le_lesser, lesser_of_le, lesser_assoc, sum_lesser, sum_infinite, least_push}
 use Rattle.sheet.specs.declared.Entry.{Entry}
-use Rattle.sheet.specs.Sheets.{blank, estimate_of, distance_of, link_of, mark_of, sum_of, by_sum, Summable, Relaxed}
+use Rattle.sheet.specs.Sheets.{blank, estimate_of, distance_of, link_of, mark_of, by_sum, Summable, Relaxed}
 use Rattle.std.proofs.lemmas.List.{take_more, get_or_read}
 use Rattle.queue.specs.Heap.{entries, In, Queue}
 use Rattle.queue.proofs.Keys.{room}
 use Rattle.site.specs.declared.Way.{Way as Exit}
 use Rattle.site.specs.Questions.{WayAt}
 use Rattle.site.proofs.WaysOut.{way_found}
-use Rattle.search.specs.Exploring.{Ready, Improves, Swept}
+use Rattle.search.specs.Exploring.{Improves, Swept}
 
 -- what the answer about a way tells
 module _ {C : Type 0} (m : Meaning C) (p i : ℕ) (place : p < m.places) where

@@ -1,9 +1,9 @@
 -- What holds while places are opened. Assumes nothing.
-use Rattle.std.specs.Prelude.{◌≡◌, ℕ, ◌<◌, ◌≤◌, Bool, true, false, ◌⊎◌, List, length, slice_index_or, slice_set}
+use Rattle.std.specs.Prelude.{◌≡◌, ℕ, ◌<◌, ◌≤◌, true, false, ◌⊎◌, List, length, slice_index_or, slice_set}
 use Rattle.cost.specs.declared.lengths.Length.{Length}
-use Rattle.cost.specs.declared.lengths.Length.TheVariants.{Finite, Infinite}
-use Rattle.cost.specs.Costs.{Kind, Laws}
-use Rattle.cost.specs.Lengths.{AtMost, Within, length_le, sum, lesser, least, origin}
+use Rattle.cost.specs.declared.lengths.Length.TheVariants.{Infinite}
+use Rattle.cost.specs.Costs.{Kind}
+use Rattle.cost.specs.Lengths.{Within, length_le, sum, lesser, least, origin}
 use Rattle.routes.specs.Sites.{Meaning, Way}
 use Rattle.routes.specs.Routes.{way_to, distance}
 use Rattle.routes.specs.Loops.{Searching, Linked, Opening, Outcome}

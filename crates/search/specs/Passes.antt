@@ -1,7 +1,7 @@
 -- What the passes over the sheet make of an entry. Assumes nothing.
-use Rattle.std.specs.Prelude.{true, false, cond}
+use Rattle.std.specs.Prelude.{false, cond}
 use Rattle.cost.specs.declared.lengths.Length.{Length}
-use Rattle.cost.specs.declared.lengths.Length.TheVariants.{Finite, Infinite}
+use Rattle.cost.specs.declared.lengths.Length.TheVariants.{Infinite}
 use Rattle.cost.specs.Costs.{Kind}
 use Rattle.cost.specs.Lengths.{remainder, greater}
 use Rattle.sheet.specs.declared.Entry.{Entry}

@@ -1,5 +1,5 @@
 -- What a search answers and leaves. Assumes nothing.
-use Rattle.std.specs.Prelude.{◌≡◌, ℕ, ◌+◌, ◌<◌, Bool, true, false, List, [], ◌∷◌, ◌++◌, length, drop}
+use Rattle.std.specs.Prelude.{◌≡◌, ℕ, ◌+◌, ◌<◌, List, ◌∷◌, ◌++◌, length, drop}
 use Rattle.cost.specs.declared.lengths.Length.{Length}
 use Rattle.cost.specs.declared.lengths.Length.TheVariants.{Finite, Infinite}
 use Rattle.cost.specs.Costs.{Kind}

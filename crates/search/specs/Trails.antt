@@ -1,7 +1,6 @@
 -- Where the links lead. Assumes nothing.
-use Rattle.std.specs.Prelude.{◌≡◌, ℕ, zero, suc, ◌<◌, ◌≤◌, Bool, true, false, List, [], ◌∷◌, ◌++◌, length, ◌≢◌}
-use Rattle.cost.specs.declared.lengths.Length.{Length}
-use Rattle.cost.specs.declared.lengths.Length.TheVariants.{Finite, Infinite}
+use Rattle.std.specs.Prelude.{◌≡◌, ℕ, zero, suc, ◌<◌, ◌≤◌, false, List, [], ◌∷◌, ◌++◌, length, ◌≢◌}
+use Rattle.cost.specs.declared.lengths.Length.TheVariants.{Finite}
 use Rattle.cost.specs.Costs.{Kind}
 use Rattle.cost.specs.Lengths.{length_le}
 use Rattle.sheet.specs.declared.Entry.{Entry}

@@ -1,15 +1,15 @@
 -- The three ways in which a place is offered a distance. Assumes nothing.
-use Rattle.std.proofs.Common.{◌≡◌, ℕ, ◌<◌, Bool, true, false, cond, ◌⊎◌, List, length, get_or, set, sym, refl, ap, ◌∙◌, subst, inl, inr, ⊎_elim, arith, length-set}
+use Rattle.std.proofs.Common.{◌≡◌, ℕ, ◌<◌, true, false, List, length, get_or, set, sym, refl, ap, ◌∙◌, subst, inl, inr, ⊎_elim}
 use Rattle.std.proofs.lemmas.Bool.{cases_eq, cond-true, cond-false}
 use Rattle.cost.specs.Costs.{Kind, Laws}
-use Rattle.cost.specs.Lengths.{AtMost, Within, length_le, sum, lesser}
+use Rattle.cost.specs.Lengths.{AtMost, Within, length_le, sum}
 use Rattle.cost.specs.declared.lengths.Length.{Length}
-use Rattle.cost.specs.declared.lengths.Length.TheVariants.{Finite, Infinite}
+use Rattle.cost.specs.declared.lengths.Length.TheVariants.{Infinite}
 use Rattle.cost.proofs.LengthLemmas.{at_most_of_not, sum_infinite}
-use Rattle.sheet.specs.Sheets.{blank, estimate_of, distance_of, link_of, mark_of, sum_of, by_sum, Summable, reached, Relaxed}
+use Rattle.sheet.specs.Sheets.{blank, estimate_of, distance_of, sum_of, by_sum, Summable, reached, Relaxed}
 use Rattle.sheet.specs.declared.Entry.{Entry}
 use Rattle.sheet.proofs.Shorter.{others, here, still_summable}
-use Rattle.queue.specs.Heap.{entries, In, Queue, Offered}
+use Rattle.queue.specs.Heap.{Queue, Offered}
 use Rattle.queue.proofs.Keys.{rekeyed}
 
 module _ {C : Type 0} {K : Kind C} (laws : Laws K) (sheet : List (Entry C)) (p from : ℕ) (d : Length C) where

@@ -1,7 +1,7 @@
 -- What a sheet keeps for each place, and the orders of places by it. Assumes nothing.
-use Rattle.std.specs.Prelude.{◌≡◌, ℕ, ◌<◌, ◌≤◌, Bool, true, false, ◌⊎◌, List, length, get_or, ◌≢◌, slice_index_or}
+use Rattle.std.specs.Prelude.{◌≡◌, ℕ, ◌<◌, ◌≤◌, Bool, false, ◌⊎◌, List, length, get_or, ◌≢◌, slice_index_or}
 use Rattle.cost.specs.declared.lengths.Length.{Length}
-use Rattle.cost.specs.declared.lengths.Length.TheVariants.{Finite, Infinite}
+use Rattle.cost.specs.declared.lengths.Length.TheVariants.{Infinite}
 use Rattle.cost.specs.Costs.{Kind, Laws}
 use Rattle.cost.specs.Lengths.{AtMost, Within, length_le, sum, lesser}
 use Rattle.cost.proofs.LengthLemmas.{at_most_trans, at_most_of_not}

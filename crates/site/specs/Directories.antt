@@ -1,5 +1,5 @@
 -- Where to look for the ways into a place, and for the ways over a segment, so that no correction has to scan a whole site. Assumes nothing.
-use Rattle.std.specs.Prelude.{◌≡◌, ℕ, ◌<◌, ◌≤◌, cond, List, length, None, Option, ◌≢◌, nat_lt}
+use Rattle.std.specs.Prelude.{ℕ, ◌<◌, ◌≤◌, cond, List, length, None, Option, ◌≢◌, nat_lt}
 use mathlib.Core.List.{Memᴰ}
 use Rattle.std.specs.List.{slice_get}
 use Rattle.routes.specs.Sites.{Meaning, Way, most_places, most_segments}

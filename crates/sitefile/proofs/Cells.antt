@@ -1,12 +1,11 @@
 -- The cells of a floor. Assumes nothing.
-use Rattle.std.proofs.Common.{◌≡◌, ℕ, ◌<◌, ◌≤◌, Bool, true, false, eqb, ◌⊎◌, List, ◌++◌, sym, refl, ap, ◌∙◌, subst, arith}
-use Rattle.std.proofs.lemmas.Bool.{or_from, or_right, eq-eqb, ne_eqb, cond-true, cond-false, and_from, le-leb}
+use Rattle.std.proofs.Common.{◌≡◌, ℕ, ◌<◌, ◌≤◌, true, false, eqb, ◌⊎◌, List, ◌++◌, sym, refl, ap, ◌∙◌, subst, arith}
+use Rattle.std.proofs.lemmas.Bool.{or_from, or_right, ne_eqb, cond-false, and_from, le-leb}
 use Rattle.tables.specs.declared.Cell.{Cell}
 use Rattle.tables.specs.declared.Cell.TheVariants.{Closed, Open}
-use Rattle.tables.specs.Floors.{between, longest_segment, is_cell}
-use Rattle.sitefile.specs.declared.fault.Fault.{Fault}
-use Rattle.sitefile.specs.Numbers.{encode, greatest, Begins}
-use Rattle.sitefile.specs.Formats.{Format, field, FieldRead, FieldFault, FirstFault, here, later}
+use Rattle.tables.specs.Floors.{longest_segment, is_cell}
+use Rattle.sitefile.specs.Numbers.{encode}
+use Rattle.sitefile.specs.Formats.{FieldRead}
 use Rattle.sitefile.specs.Floors.{cell_number, number_cell, is_cell_number, cells}
 use Rattle.sitefile.proofs.Forms.{encode_same}
 use Rattle.sitefile.proofs.Fields.{not_between, at_least, at_most, field_read}

@@ -4,7 +4,7 @@ use Rattle.std.proofs.lemmas.List.{length-take-le}
 use Rattle.std.proofs.lemmas.Bool.{leb-true, le-leb}
 use Rattle.tables.specs.declared.Cell.{Cell}
 use Rattle.tables.specs.declared.FloorHead.{FloorHead}
-use Rattle.tables.specs.Floors.{longest_segment, is_cell, AreCells, FloorDescription, KeepsRanges}
+use Rattle.tables.specs.Floors.{longest_segment, AreCells, FloorDescription, KeepsRanges}
 use Rattle.sitefile.specs.declared.fault.Fault.{Fault}
 use Rattle.sitefile.specs.declared.reader.Reader.{Reader}
 use Rattle.sitefile.specs.Readers.{ahead}

@@ -1,9 +1,9 @@
 -- The groups of a number, one byte at a time. Assumes nothing.
-use Rattle.std.proofs.Common.{◌≡◌, ℕ, zero, suc, ◌+◌, ◌-◌, ◌*◌, ◌/◌, ◌%◌, ◌<◌, ◌≤◌, ◌⊎◌, List, [], ◌∷◌, ◌++◌, length, sym, refl, ap, ◌∙◌, subst, ⊎_elim, arith, length-append}
+use Rattle.std.proofs.Common.{◌≡◌, ℕ, zero, suc, ◌+◌, ◌-◌, ◌*◌, ◌/◌, ◌%◌, ◌<◌, ◌≤◌, List, [], ◌∷◌, ◌++◌, length, sym, refl, ap, ◌∙◌, subst, ⊎_elim, arith, length-append}
 use Rattle.std.proofs.lemmas.Bool.{lt-ltb, le-ltb, cases_lt, cond-true, cond-false}
 use Rattle.sitefile.specs.declared.fault.Fault.{Fault}
 use Rattle.sitefile.specs.Faults.{missing_byte, malformed_number}
-use Rattle.sitefile.specs.Numbers.{encode_by, encode, limit_by, Continued, EndsInside, Malformed, not_shortest, too_great, Begins, BeginsBy, FaultBy, missing, malformed, NumberFault}
+use Rattle.sitefile.specs.Numbers.{encode_by, limit_by, Continued, EndsInside, Malformed, not_shortest, too_great, Begins, BeginsBy, FaultBy, missing, malformed, NumberFault}
 
 pub encode_low : (more n : ℕ) → n < 128 → encode_by more n ≡ n ∷ []
 encode_low zero n low = refl

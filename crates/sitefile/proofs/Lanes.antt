@@ -1,6 +1,6 @@
 -- The places and lanes of a tape. Assumes nothing.
-use Rattle.std.proofs.Common.{◌≡◌, ℕ, suc, ◌+◌, ◌-◌, ◌*◌, ◌/◌, ◌%◌, ◌<◌, ◌≤◌, Bool, true, false, cond, ◌&&◌, eqb, ltb, leb, ◌⊎◌, List, [], ◌∷◌, ◌++◌, length, ℤ, pos, negsuc, sym, refl, ap, ◌∙◌, subst, ⊎_elim, arith}
-use Rattle.std.proofs.lemmas.Bool.{eq-eqb, ne_eqb, eqb-true, cond-true, cond-false, and_from, and_left, and_right, and_parts, lt-leb, le-leb, leb-true, ltb-true}
+use Rattle.std.proofs.Common.{◌≡◌, ℕ, suc, ◌+◌, ◌-◌, ◌*◌, ◌/◌, ◌%◌, ◌≤◌, true, false, cond, ◌&&◌, eqb, ltb, List, ◌++◌, length, ℤ, pos, negsuc, sym, refl, ap, ◌∙◌, subst, arith}
+use Rattle.std.proofs.lemmas.Bool.{eq-eqb, ne_eqb, eqb-true, cond-true, cond-false, and_parts, leb-true, ltb-true}
 use Rattle.tables.specs.declared.tape.Place.{Place}
 use Rattle.tables.specs.declared.tape.Lane.{Lane}
 use Rattle.tables.specs.declared.tape.LaneCost.{LaneCost}
@@ -10,10 +10,10 @@ use Rattle.tables.specs.Floors.{between, longest_segment}
 use Rattle.tables.specs.Tapes.{farthest, most_places, most_crossings, is_coordinate, is_place, is_lane_cost}
 use Rattle.sitefile.specs.declared.reader.Reader.{Reader}
 use Rattle.sitefile.specs.Readers.{ahead, size}
-use Rattle.sitefile.specs.Numbers.{encode, greatest}
+use Rattle.sitefile.specs.Numbers.{encode}
 use Rattle.sitefile.specs.declared.fault.Fault.{Fault}
 use Rattle.sitefile.specs.Faults.{broken_rule}
-use Rattle.sitefile.specs.Formats.{Format, position, check, field, FieldRead, FirstFault, later, at_position}
+use Rattle.sitefile.specs.Formats.{Format, check, field, FieldRead, FirstFault, later, at_position}
 use Rattle.sitefile.specs.Tapes.{zigzag, unzigzag, placed, no_notes_at, is_coordinate_number, places, lane_of, no_notes_on, cost_format, encode_cost, state_format, encode_state, lane_format, encode_lane, is_state_ranged, is_lane_ranged, lane_numbers, keeps_rules, lanes}
 use Rattle.sitefile.proofs.Forms.{encode_same}
 use Rattle.sitefile.proofs.Fields.{is_between, at_most, field_read, check_failed, Carries, carries_fault}

@@ -1,5 +1,5 @@
 -- Places found by their numbers. Assumes nothing.
-use Rattle.std.proofs.Common.{◌≡◌, ℕ, zero, suc, ◌+◌, ◌-◌, ◌*◌, ◌/◌, ◌%◌, ◌<◌, ◌≤◌, min, true, ◌&&◌, ◌⊎◌, List, [], ◌∷◌, ◌++◌, length, get_or, take, drop, set, IfOk, Ok, Err, Result, sym, refl, ap, ◌∙◌, subst, ⊎_elim, append_assoc, arith, length-append, get_or-set_other, get_or-set_same}
+use Rattle.std.proofs.Common.{◌≡◌, ℕ, zero, suc, ◌+◌, ◌-◌, ◌*◌, ◌/◌, ◌%◌, ◌<◌, ◌≤◌, min, true, ◌&&◌, List, [], ◌∷◌, ◌++◌, length, get_or, take, drop, set, IfOk, Ok, Err, Result, sym, refl, ap, ◌∙◌, ⊎_elim, append_assoc, arith, length-append, get_or-set_other, get_or-set_same}
 use Rattle.std.proofs.lemmas.List.{drop_more, drop_all, drop-append-le, drop_at, take_rest}
 use Rattle.std.proofs.lemmas.Bool.{cases_eq, cases_lt, and_parts}
 use Rattle.tables.specs.declared.tape.Place.{Place}
@@ -8,7 +8,7 @@ use Rattle.sitefile.specs.declared.fault.Fault.{Fault}
 use Rattle.sitefile.specs.declared.reader.Reader.{Reader}
 use Rattle.sitefile.specs.Readers.{ahead, size}
 use Rattle.sitefile.specs.Numbers.{encode}
-use Rattle.sitefile.specs.Records.{encode_all, AllAllowed, ReadAll, ReadsOne, Walked}
+use Rattle.sitefile.specs.Records.{encode_all, AllAllowed, ReadsOne, Walked}
 use Rattle.sitefile.specs.Tapes.{zigzag, no_notes_at, places, PlacesAt, PlacesWalked}
 use Rattle.sitefile.proofs.Lanes.{places_laws}
 use Rattle.sitefile.proofs.Runs.{stands, walked_more, encode_push, reads_expected}

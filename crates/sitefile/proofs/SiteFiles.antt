@@ -1,17 +1,16 @@
 -- A whole file: the layout of a site, or the first fault, and never both. Assumes nothing.
-use Rattle.std.proofs.Common.{◌≡◌, ℕ, ◌+◌, List, [], ◌∷◌, ◌++◌, length, drop, Ok, Err, Result, sym, refl, ap, ◌∙◌, subst, arith}
+use Rattle.std.proofs.Common.{◌≡◌, ℕ, List, ◌∷◌, length, Ok, Err, sym, refl, ap, ◌∙◌, subst, arith}
 use Rattle.tables.specs.declared.Cell.{Cell}
 use Rattle.tables.specs.declared.FloorHead.{FloorHead}
 use Rattle.tables.specs.declared.tape.TapeHead.{TapeHead}
 use Rattle.tables.specs.declared.tape.Place.{Place}
 use Rattle.tables.specs.declared.tape.Lane.{Lane}
 use Rattle.sitefile.specs.declared.fault.Fault.{Fault}
-use Rattle.sitefile.specs.declared.loader.SiteHead.{SiteHead}
 use Rattle.sitefile.specs.declared.loader.SiteHead.TheVariants.{Floor, Tape}
 use Rattle.sitefile.specs.Formats.{Format, FirstFault}
 use Rattle.sitefile.specs.Floors.{floor_kind, floor_format, LoadsFloor}
 use Rattle.sitefile.specs.Tapes.{tape_kind, tape_format, LoadsTape}
-use Rattle.sitefile.specs.Sites.{SiteDescription, a_floor, a_tape, Tables, tables_of, layout, head_of, filled, Accepts, FileFault, empty, unknown, in_floor, in_tape, Loads}
+use Rattle.sitefile.specs.Sites.{SiteDescription, a_floor, a_tape, Tables, tables_of, head_of, filled, Accepts, FileFault, empty, unknown, in_floor, in_tape, Loads}
 use Rattle.sitefile.proofs.Fields.{fault_at, fault_same, Holds, faultless}
 use Rattle.sitefile.proofs.FloorFiles.{floor_holds, floor_same}
 use Rattle.sitefile.proofs.TapeFiles.{tape_holds, tape_same}

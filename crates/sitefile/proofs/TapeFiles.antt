@@ -1,5 +1,5 @@
 -- The file of a tape after its first byte. Assumes nothing.
-use Rattle.std.proofs.Common.{◌≡◌, ℕ, zero, suc, ◌+◌, ◌-◌, ◌<◌, ◌≤◌, Bool, true, ◌&&◌, eqb, ltb, leb, ◌⊎◌, List, [], ◌∷◌, ◌++◌, length, take, drop, Ok, sym, refl, ap, ◌∙◌, subst, ⊎_elim, append_assoc, append-nil, arith, length-append}
+use Rattle.std.proofs.Common.{◌≡◌, ℕ, zero, suc, ◌+◌, ◌<◌, ◌≤◌, true, eqb, List, [], ◌∷◌, ◌++◌, length, drop, Ok, sym, refl, ap, ◌∙◌, subst, ⊎_elim, append_assoc, append-nil, arith, length-append}
 use Rattle.std.specs.List.{AllByRecursion as All}
 use Rattle.std.proofs.lemmas.List.{get_or_append_left, get_or_at, take_all, length_push}
 use Rattle.std.proofs.lemmas.Bool.{and_from, and_parts, leb-true, ltb-true, lt-ltb, le-leb, cases_lt, cases_eq, eq-eqb, ne_eqb, cond-true, cond-false}
@@ -9,18 +9,18 @@ use Rattle.tables.specs.declared.tape.Lane.{Lane}
 use Rattle.tables.specs.declared.tape.LaneCost.{LaneCost}
 use Rattle.tables.specs.declared.tape.LaneState.{LaneState}
 use Rattle.tables.specs.declared.tape.LaneState.TheVariants.{Closed, Open}
-use Rattle.tables.specs.Tapes.{most_places, most_lanes, most_leaving, is_place, is_lane_state, is_state_not_under, no_lane, place_at, lane_at, leaving, larger_difference, SoundLane, SoundLanes, SoundTape}
+use Rattle.tables.specs.Tapes.{most_places, most_lanes, most_leaving, is_place, is_lane_state, is_state_not_under, no_lane, place_at, lane_at, leaving, SoundLane, SoundLanes}
 use Rattle.sitefile.specs.declared.fault.Fault.{Fault}
 use Rattle.sitefile.specs.declared.reader.Reader.{Reader}
 use Rattle.sitefile.specs.Readers.{ahead, size}
 use Rattle.sitefile.specs.Numbers.{encode}
 use Rattle.sitefile.specs.Formats.{ended, FirstFault, later}
 use Rattle.sitefile.specs.Records.{Records, encode_all, AllAllowed, many, ReadAll, Walked, FaultAmong}
-use Rattle.sitefile.specs.Tapes.{no_notes_at, places, no_notes_on, is_state_ranged, is_lane_ranged, lane_numbers, last_from, keeps_rules, lanes, TapeDescription, tape_head, KeepsTapeRules, tape_bytes, tape_format, CountsRead, LoadsTape}
+use Rattle.sitefile.specs.Tapes.{no_notes_at, places, no_notes_on, is_state_ranged, lane_numbers, last_from, lanes, TapeDescription, KeepsTapeRules, tape_bytes, tape_format, CountsRead, LoadsTape}
 use Rattle.sitefile.proofs.Forms.{encode_same}
 use Rattle.sitefile.proofs.Fields.{at_least, at_most, is_between, field_read, check_passed, Holds, to_the_end, with_check, with_field}
-use Rattle.sitefile.proofs.Lanes.{Ranged, ranged, places_laws, lane_numbers_laws, lanes_laws}
-use Rattle.sitefile.proofs.Rules.{Kept, rules_kept, all_kept, leaving_same, leaving_other}
+use Rattle.sitefile.proofs.Lanes.{ranged, places_laws, lane_numbers_laws, lanes_laws}
+use Rattle.sitefile.proofs.Rules.{rules_kept, all_kept, leaving_same, leaving_other}
 use Rattle.sitefile.proofs.Runs.{records_hold, records_same, no_second_fault}
 
 -- a fault after the counts

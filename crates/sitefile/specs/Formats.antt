@@ -1,5 +1,5 @@
 -- What a file holds front to back, and the first fault of bytes that do not hold it. Assumes nothing.
-use Rattle.std.specs.Prelude.{◌≡◌, ℕ, ◌-◌, Bool, true, false, List, [], ◌∷◌, length}
+use Rattle.std.specs.Prelude.{◌≡◌, ℕ, ◌-◌, Bool, true, false, List, ◌∷◌, length}
 use Rattle.sitefile.specs.declared.fault.Fault.{Fault}
 use Rattle.sitefile.specs.Faults.{out_of_range, bytes_left}
 use Rattle.sitefile.specs.Numbers.{Begins, NumberFault}

@@ -1,12 +1,12 @@
 -- What the tests of a sheet tell. Assumes nothing.
-use Rattle.std.proofs.Common.{◌≡◌, ℕ, ◌+◌, ◌<◌, ◌≤◌, Bool, true, false, ◌⊎◌, List, length, get_or, Some, None, sym, refl, ap, ◌∙◌, subst, inl, inr, ⊎_elim, true≢false, arith}
+use Rattle.std.proofs.Common.{◌≡◌, ℕ, ◌+◌, ◌<◌, true, false, List, get_or, Some, sym, refl, ◌∙◌, subst, ⊎_elim, true≢false, arith}
 use Rattle.std.proofs.lemmas.Bool.{cases_eq}
 use Rattle.cost.specs.declared.lengths.Length.{Length}
 use Rattle.cost.specs.declared.lengths.Length.TheVariants.{Finite, Infinite}
 use Rattle.cost.specs.Costs.{Kind, Laws}
 use Rattle.cost.specs.Lengths.{AtMost, Within, length_le, length_within, sum, origin}
-use Rattle.routes.specs.Sites.{Meaning, Way, Lawful}
-use Rattle.routes.specs.Estimates.{Sound, Consistent}
+use Rattle.routes.specs.Sites.{Meaning, Lawful}
+use Rattle.routes.specs.Estimates.{Sound}
 use Rattle.cost.proofs.LengthLemmas.{at_most_antisym, origin_least, at_most_of_eq, within_finite, within_infinite}
 use Rattle.routes.proofs.Estimates.{consistent_way}
 use Rattle.sheet.specs.declared.Entry.{Entry}

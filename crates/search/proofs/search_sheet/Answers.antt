@@ -1,4 +1,4 @@
-use Rattle.std.proofs.Common.{◌≡◌, ◌<◌, ◌≤◌, length, get_or, sym, ◌∙◌, subst, arith, rules}
+use Rattle.std.proofs.Common.{◌≡◌, ◌<◌, length, get_or, sym, ◌∙◌, subst, arith, rules}
 use Rattle.cost.specs.Lengths.{Within}
 use Rattle.routes.specs.Estimates.{Sound}
 use Rattle.sheet.specs.Sheets.{estimate_of}

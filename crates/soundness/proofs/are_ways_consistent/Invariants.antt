@@ -1,6 +1,4 @@
 use Rattle.std.proofs.Common.{ℕ, ◌-◌, ◌<◌, ◌≤◌, length, get_or}
-use Rattle.cost.specs.Lengths.{AtMost, sum}
-use Rattle.sheet.specs.Sheets.{estimate_of}
 use Rattle.soundness.proofs.Checking.{FineWay}
 use Rattle.soundness.proofs.are_ways_consistent.Given as goal
 

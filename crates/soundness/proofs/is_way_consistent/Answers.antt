@@ -1,4 +1,4 @@
-use Rattle.std.proofs.Common.{◌≡◌, sym, ap, ◌∙◌, subst}
+use Rattle.std.proofs.Common.{sym, ap, subst}
 use Rattle.cost.specs.Lengths.{Within}
 use Rattle.std.proofs.lemmas.List.{get_or_default}
 use Rattle.sheet.specs.Sheets.{blank}

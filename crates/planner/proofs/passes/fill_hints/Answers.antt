@@ -1,7 +1,7 @@
-use Rattle.std.proofs.Common.{◌≡◌, ℕ, ◌+◌, ◌<◌, length, get_or, set, Some, None, sym, ap, ◌∙◌, subst, arith, rules}
+use Rattle.std.proofs.Common.{◌≡◌, ◌+◌, ◌<◌, length, Some, sym, ap, ◌∙◌, subst, arith, rules}
 use Rattle.cost.specs.declared.lengths.Length.TheVariants.{Finite}
 use Rattle.routes.specs.Estimates.{opened}
-use Rattle.sheet.specs.Sheets.{Filled, with_estimate}
+use Rattle.sheet.specs.Sheets.{Filled}
 use Rattle.sheet.proofs.Filling.{filled_none, filled_more}
 use Rattle.site.proofs.Answering.{hint_there}
 use Rattle.planner.proofs.passes.fill_hints.Goals as goal

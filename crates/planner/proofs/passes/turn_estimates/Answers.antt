@@ -1,7 +1,6 @@
-use Rattle.std.proofs.Common.{◌≡◌, ℕ, ◌+◌, ◌<◌, length, get_or, set, Some, None, sym, ap, ◌∙◌, subst, arith, rules}
+use Rattle.std.proofs.Common.{◌≡◌, ◌+◌, ◌<◌, length, get_or, set, Some, sym, ap, ◌∙◌, subst, arith, rules}
 use Rattle.std.proofs.lemmas.List.{get_or_default}
-use Rattle.cost.specs.declared.lengths.Length.TheVariants.{Finite}
-use Rattle.cost.specs.Lengths.{Within, greater, remainder}
+use Rattle.cost.specs.Lengths.{Within}
 use Rattle.routes.specs.Estimates.{retargeted}
 use Rattle.sheet.specs.Sheets.{blank, estimate_of, Filled, with_estimate}
 use Rattle.sheet.proofs.Filling.{filled_none, filled_more, filled_ahead}

@@ -1,10 +1,9 @@
-use Rattle.std.proofs.Common.{◌≡◌, ◌<◌, ◌≤◌, true, false, length, get_or, take, sym, ap, ◌∙◌, subst, arith, rules}
-use Rattle.std.proofs.lemmas.List.{get_or_read, take_all}
-use Rattle.cost.specs.Lengths.{Within, sum, length_le}
-use Rattle.sheet.specs.Sheets.{blank, distance_of, estimate_of, Relaxed}
+use Rattle.std.proofs.Common.{◌≡◌, ◌<◌, false, length, sym, ◌∙◌, subst, arith, rules}
+use Rattle.std.proofs.lemmas.List.{take_all}
+use Rattle.cost.specs.Lengths.{Within, length_le}
+use Rattle.sheet.specs.Sheets.{distance_of, Relaxed}
 use Rattle.search.specs.Exploring.{Swept}
 use Rattle.search.proofs.Sweeps.{read_distance, offered_is, ways_done, way_there, segment_there, end_place, few, state_within, swept_none, swept_turn, next_within, next_estimate, next_room}
-use Rattle.search.proofs.explore.expand.Given.{Over}
 use Rattle.search.proofs.explore.expand.Goals as goal
 
 pub offset_bounds-sheet-from : goal.offset_bounds-sheet-from

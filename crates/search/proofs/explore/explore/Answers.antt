@@ -1,5 +1,5 @@
-use Rattle.std.proofs.Common.{◌≡◌, ◌-◌, ◌<◌, ◌≤◌, true, false, length, sym, ap, ◌∙◌, subst, arith, rules}
-use Rattle.cost.specs.Lengths.{Within, length_le, origin}
+use Rattle.std.proofs.Common.{◌≡◌, ◌<◌, true, false, length, sym, ◌∙◌, subst, arith, rules}
+use Rattle.cost.specs.Lengths.{Within, length_le}
 use Rattle.routes.specs.Estimates.{Sound}
 use Rattle.cost.proofs.LengthLemmas.{within_origin}
 use Rattle.sheet.specs.Sheets.{estimate_of, distance_of, sum_of, by_sum, Summable, ranks_by, Relaxed}

@@ -1,4 +1,4 @@
-use Rattle.std.proofs.Common.{◌≡◌, ◌<◌, length, sym, subst, arith, rules}
+use Rattle.std.proofs.Common.{◌<◌, length, sym, subst, arith, rules}
 use Rattle.cost.specs.Lengths.{Within}
 use Rattle.sheet.specs.Sheets.{distance_of}
 use Rattle.search.specs.Exploring.{Ready, Improves, Swept}

@@ -1,4 +1,4 @@
-use Rattle.std.proofs.Common.{◌≡◌, ◌+◌, ◌<◌, true, length, get_or, sym, refl, ap, ◌∙◌, subst, arith}
+use Rattle.std.proofs.Common.{◌+◌, ◌<◌, length, get_or, sym, refl, ap, ◌∙◌, subst, arith}
 use Rattle.cost.specs.Lengths.{Within}
 use Rattle.sheet.specs.Sheets.{blank}
 use Rattle.search.specs.Passes.{raised}

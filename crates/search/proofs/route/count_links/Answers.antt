@@ -1,4 +1,4 @@
-use Rattle.std.proofs.Common.{◌≡◌, ◌+◌, ◌<◌, ◌≤◌, length, get_or, sym, ◌∙◌, subst, arith, rules}
+use Rattle.std.proofs.Common.{◌+◌, ◌<◌, length, sym, subst, arith, rules}
 use Rattle.routes.proofs.Links.{rank}
 use Rattle.sheet.specs.Sheets.{distance_of, link_of}
 use Rattle.search.specs.Trails.{Walked}

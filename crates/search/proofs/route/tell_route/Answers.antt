@@ -1,8 +1,7 @@
-use Rattle.std.proofs.Common.{◌≡◌, suc, ◌+◌, ◌<◌, ◌≤◌, ◌∷◌, ◌++◌, length, drop, sym, refl, ap, ◌∙◌, subst, add-one, arith, rules}
+use Rattle.std.proofs.Common.{◌≡◌, ◌+◌, ◌<◌, ◌∷◌, ◌++◌, drop, sym, refl, ap, ◌∙◌, add-one, arith, rules}
 use Rattle.cost.proofs.LengthLemmas.{infinite_not_finite}
-use Rattle.sheet.specs.Sheets.{distance_of, link_of}
-use Rattle.search.specs.Trails.{walk, trail}
-use Rattle.search.specs.Searches.{Written, Told}
+use Rattle.sheet.specs.Sheets.{link_of}
+use Rattle.search.specs.Trails.{trail}
 use Rattle.search.proofs.Sweeps.{read_distance}
 use Rattle.search.proofs.Walks.{trail_front}
 use Rattle.search.proofs.route.tell_route.Goals as goal

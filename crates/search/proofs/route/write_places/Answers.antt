@@ -1,4 +1,4 @@
-use Rattle.std.proofs.Common.{◌≡◌, ◌-◌, ◌<◌, ◌≤◌, ◌++◌, length, drop, sym, ap, ◌∙◌, subst, arith, rules}
+use Rattle.std.proofs.Common.{◌≡◌, ◌-◌, ◌<◌, ◌++◌, length, drop, sym, ap, ◌∙◌, subst, arith, rules}
 use Rattle.sheet.specs.Sheets.{link_of}
 use Rattle.search.specs.Trails.{walk, trail}
 use Rattle.search.proofs.Walks.{read_link, walk_zero, trail_zero, walk_back, write_back}

@@ -1,8 +1,8 @@
-use Rattle.std.proofs.Common.{◌≡◌, Bool, true, false, List, set, sym, ap, ◌∙◌, subst}
+use Rattle.std.proofs.Common.{◌≡◌, true, false, set, sym, ap, ◌∙◌, subst}
 use Rattle.std.proofs.lemmas.List.{get_or_read}
 use Rattle.cost.specs.Lengths.{length_le}
 use Rattle.queue.specs.Heap.{Offered}
-use Rattle.sheet.specs.Sheets.{blank, estimate_of, distance_of, by_sum, Summable, reached, Relaxed}
+use Rattle.sheet.specs.Sheets.{blank, distance_of, by_sum, Summable, reached, Relaxed}
 use Rattle.sheet.proofs.Relaxing.{relaxed_none, relaxed_queued, relaxed_far, shorter}
 use Rattle.sheet.proofs.distances.relax.Goals as goal
 

@@ -1,4 +1,4 @@
-use Rattle.std.proofs.Common.{◌*◌, length, take, sym, refl, ◌∙◌, arith}
+use Rattle.std.proofs.Common.{◌*◌, length, take, refl, ◌∙◌}
 use Rattle.std.proofs.lemmas.Result.{err_from_is_err_and}
 use Rattle.tables.specs.Floors.{longest_segment}
 use Rattle.sitefile.specs.Floors.{cells}

@@ -2,7 +2,7 @@ use Rattle.std.proofs.Common.{◌≡◌, ◌<◌, ◌∷◌, length, get_or, sym
 use Rattle.std.proofs.lemmas.List.{nil_from_length}
 use Rattle.std.proofs.lemmas.Slice.{first_rest}
 use Rattle.std.proofs.lemmas.Result.{err_from_is_err_and}
-use Rattle.sitefile.specs.Readers.{ahead, size}
+use Rattle.sitefile.specs.Readers.{ahead}
 use Rattle.sitefile.specs.Floors.{floor_kind}
 use Rattle.sitefile.specs.Tapes.{tape_kind}
 use Rattle.sitefile.specs.Sites.{empty, unknown}

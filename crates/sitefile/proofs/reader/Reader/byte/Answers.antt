@@ -1,4 +1,4 @@
-use Rattle.std.proofs.Common.{◌≡◌, ◌<◌, length, refl, ap, add-zero, arith, rules}
+use Rattle.std.proofs.Common.{◌≡◌, ◌<◌, length, refl, ap, arith, rules}
 use Rattle.std.proofs.lemmas.List.{nil_from_length}
 use Rattle.std.proofs.lemmas.Slice.{first_rest}
 use Rattle.sitefile.specs.Faults.{missing_byte}

@@ -1,6 +1,5 @@
-use Rattle.std.proofs.Common.{◌≡◌, ◌+◌, ◌*◌, ◌/◌, true, length, drop, sym, ap, ◌∙◌, subst, arith}
+use Rattle.std.proofs.Common.{◌≡◌, ◌+◌, ◌*◌, ◌/◌, drop, ap, ◌∙◌, arith}
 use Rattle.std.proofs.lemmas.Result.{err_from_is_err_and}
-use Rattle.sitefile.specs.Readers.{ahead}
 use Rattle.sitefile.specs.Records.{encode_all}
 use Rattle.sitefile.specs.Tapes.{places}
 use Rattle.sitefile.proofs.Offsets.{find_first, find_more, find_none, find_last, found_ranged}

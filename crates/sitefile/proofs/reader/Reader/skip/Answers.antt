@@ -1,4 +1,3 @@
-use Rattle.std.proofs.Common.{◌∙◌}
 use Rattle.sitefile.proofs.Offsets.{skipped}
 use Rattle.sitefile.proofs.reader.Reader.skip.Goals as goal
 

@@ -1,4 +1,4 @@
-use Rattle.std.proofs.Common.{◌≡◌, ℕ, List, sym, refl, ◌∙◌, ap₂, arith}
+use Rattle.std.proofs.Common.{◌≡◌, sym, refl, ◌∙◌, ap₂, arith}
 use Rattle.tables.specs.Tapes.{larger_difference, place_at}
 use Rattle.sitefile.proofs.Rules.{too_many, too_fast, all_kept, before_count}
 use Rattle.sitefile.proofs.tape.LaneRun.check_lane.Goals as goal
