@@ -1,6 +1,6 @@
 -- The file of a tape after its first byte. Assumes nothing.
 use Rattle.std.proofs.Common.{◌≡◌, ℕ, zero, suc, ◌+◌, ◌<◌, ◌≤◌, true, eqb, List, [], ◌∷◌, ◌++◌, length, drop, Ok, sym, refl, ap, ◌∙◌, subst, ⊎_elim, append_assoc, append-nil, arith, length-append}
-use Rattle.std.specs.List.{AllByRecursion as All}
+use Rattle.std.specs.List.{AllByRecursion}
 use Rattle.std.proofs.lemmas.List.{get_or_append_left, get_or_at, take_all, length_push}
 use Rattle.std.proofs.lemmas.Bool.{and_from, and_parts, leb-true, ltb-true, lt-ltb, le-leb, cases_lt, cases_eq, eq-eqb, ne_eqb, cond-true, cond-false}
 use Rattle.tables.specs.declared.tape.TapeHead.{TapeHead}
@@ -40,11 +40,11 @@ places_sound before [] all i h = absurd (omega arith)
 places_sound before (p ∷ ps) all zero h = (and_parts _ _ all.0).0
 places_sound before (p ∷ ps) all (suc i) h = places_sound (before ++ p ∷ []) ps all.1 i (omega arith)
 
-places_unnoted : (before ps : List Place) → AllAllowed places before ps → All (λ p. no_notes_at p ≡ true) ps
+places_unnoted : (before ps : List Place) → AllAllowed places before ps → AllByRecursion (λ p. no_notes_at p ≡ true) ps
 places_unnoted before [] all = tt
 places_unnoted before (p ∷ ps) all = ((and_parts _ _ all.0).1, places_unnoted (before ++ p ∷ []) ps all.1)
 
-places_allowed : (before ps : List Place) → ((i : ℕ) → i < length ps → is_place (place_at ps i) ≡ true) → All (λ p. no_notes_at p ≡ true) ps → AllAllowed places before ps
+places_allowed : (before ps : List Place) → ((i : ℕ) → i < length ps → is_place (place_at ps i) ≡ true) → AllByRecursion (λ p. no_notes_at p ≡ true) ps → AllAllowed places before ps
 places_allowed before [] sound none = tt
 places_allowed before (p ∷ ps) sound none =
     (and_from _ _ (sound 0 (omega arith)) none.0, places_allowed (before ++ p ∷ []) ps (λ i h. sound (suc i) (omega arith)) none.1)
@@ -55,7 +55,7 @@ numbers_allowed : (count : ℕ) (ps : List Place) (before ls : List Lane) → Al
 numbers_allowed count ps before [] all = tt
 numbers_allowed count ps before (l ∷ ls) all = ((and_parts _ _ all.0).0, numbers_allowed count ps (before ++ l ∷ []) ls all.1)
 
-lanes_unnoted : (count : ℕ) (before ls : List Lane) → AllAllowed (lane_numbers count) before ls → All (λ l. no_notes_on l ≡ true) ls
+lanes_unnoted : (count : ℕ) (before ls : List Lane) → AllAllowed (lane_numbers count) before ls → AllByRecursion (λ l. no_notes_on l ≡ true) ls
 lanes_unnoted count before [] all = tt
 lanes_unnoted count before (l ∷ ls) all = ((ranged count l all.0).no_notes, lanes_unnoted count (before ++ l ∷ []) ls all.1)
 
@@ -179,7 +179,7 @@ module _ (count : ℕ) (ps : List Place) where
       (and_from _ _ (and_from _ _ (and_from _ _ (and_from _ _ (lt-ltb _ _ sound.from_place) (lt-ltb _ _ sound.to_place)) sound.floor_ranged) state.0) none)
       (all_kept ps before l (last_below before l ls s) (omega arith) sound.floor_time state.1)
 
-  lanes_allowed : (before ls : List Lane) → SoundSoFar count ps (before ++ ls) → All (λ l. no_notes_on l ≡ true) ls → AllAllowed (lanes count ps) before ls
+  lanes_allowed : (before ls : List Lane) → SoundSoFar count ps (before ++ ls) → AllByRecursion (λ l. no_notes_on l ≡ true) ls → AllAllowed (lanes count ps) before ls
   lanes_allowed before [] s none = tt
   lanes_allowed before (l ∷ ls) s none =
       (lane_allowed before l ls s none.0, lanes_allowed (before ++ l ∷ []) ls (subst (SoundSoFar count ps) (sym (append_assoc before (l ∷ []) ls)) s) none.1)

@@ -1,6 +1,6 @@
 -- A number in a file: groups of seven bits, lowest first, in the shortest form. The high bit of a byte says that another follows. Assumes nothing.
 use Rattle.std.specs.Prelude.{◌≡◌, ℕ, zero, suc, ◌+◌, ◌-◌, ◌*◌, ◌/◌, ◌%◌, ◌<◌, ◌≤◌, cond, List, [], ◌∷◌, ◌++◌, length, Ok, Err, Result, MatchResult, nat_lt}
-use Rattle.std.specs.List.{AllByRecursion as All}
+use Rattle.std.specs.List.{AllByRecursion}
 use Rattle.sitefile.specs.declared.fault.Fault.{Fault}
 use Rattle.sitefile.specs.declared.reader.Reader.{Reader}
 use Rattle.sitefile.specs.Faults.{missing_byte, malformed_number}
@@ -36,7 +36,7 @@ pub record BeginsBy (more : ℕ) (bytes : List ℕ) (n : ℕ) (rest : List ℕ) 
 
 -- each of the bytes says that another follows
 abbrev pub Continued : List ℕ → Type 0
-Continued bytes = All (λ b. 128 ≤ b) bytes
+Continued bytes = AllByRecursion (λ b. 128 ≤ b) bytes
 
 -- the bytes end before the number does
 pub record EndsInside (more : ℕ) (bytes : List ℕ) : Type 0 where

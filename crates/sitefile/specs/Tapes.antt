@@ -1,6 +1,6 @@
 -- The file of a tape. Assumes nothing.
 use Rattle.std.specs.Prelude.{◌≡◌, ℕ, ◌+◌, ◌*◌, ◌/◌, ◌%◌, ◌<◌, ◌≤◌, Bool, true, cond, ◌&&◌, ltb, leb, List, [], ◌∷◌, ◌++◌, length, drop, ℤ, pos, negsuc, Ok, Err, Result, MatchResult, ◌==◌, nat_le, nat_lt, slice_index}
-use Rattle.std.specs.List.{AllByRecursion as All}
+use Rattle.std.specs.List.{AllByRecursion}
 use Rattle.tables.specs.declared.tape.TapeHead.{TapeHead}
 use Rattle.tables.specs.declared.tape.Place.{Place}
 use Rattle.tables.specs.declared.tape.Lane.{Lane}
@@ -132,8 +132,8 @@ tape_head d = record { places = length d.places_told; lanes = length d.lanes_tol
 -- It keeps the rules of tapes, and has no notes.
 pub record KeepsTapeRules (d : TapeDescription) : Type 0 where
   pub sound : SoundTape (tape_head d) d.places_told d.lanes_told
-  pub places_unnoted : All (λ p. no_notes_at p ≡ true) d.places_told
-  pub lanes_unnoted : All (λ l. no_notes_on l ≡ true) d.lanes_told
+  pub places_unnoted : AllByRecursion (λ p. no_notes_at p ≡ true) d.places_told
+  pub lanes_unnoted : AllByRecursion (λ l. no_notes_on l ≡ true) d.lanes_told
 
 -- the counts of places and lanes, then the places, then the lanes
 abbrev pub tape_bytes : TapeDescription → List ℕ

@@ -1,6 +1,6 @@
 -- What may stand in a floor's head and cells. Assumes nothing.
 use Rattle.std.specs.Prelude.{◌≡◌, ℕ, ◌*◌, Bool, true, ◌&&◌, List, length, nat_le}
-use Rattle.std.specs.List.{AllByRecursion as All}
+use Rattle.std.specs.List.{AllByRecursion}
 use Rattle.tables.specs.declared.Cell.{Cell}
 use Rattle.tables.specs.declared.Cell.TheVariants.{Closed, Open}
 use Rattle.tables.specs.declared.FloorHead.{FloorHead}
@@ -27,7 +27,7 @@ is_cell free Closed = true
 is_cell free (Open time) = between free longest_segment time
 
 abbrev pub AreCells : ℕ → List Cell → Type 0
-AreCells free cells = All (λ cell. is_cell free cell ≡ true) cells
+AreCells free cells = AllByRecursion (λ cell. is_cell free cell ≡ true) cells
 
 -- a floor, described: its numbers, and its cells row by row
 pub record FloorDescription : Type 0 where

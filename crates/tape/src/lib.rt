@@ -5,7 +5,7 @@ ghost use Rattle.std.specs.Prelude.{◌≡◌, ◌<◌, true};
 ghost use Rattle.cost.specs.CrossingsFirst.{crossings_first};
 ghost use Rattle.tables.specs.Tapes.{place_at, lane_at};
 ghost use Rattle.tape.specs.TapeSites.{cost_of, length_of, lane_cost, SiteOver, SoundTapesAreLawful};
-ghost use Rattle.tape.specs.TapeReadings.{read_place, read_floor, read_state, leads as «leads-from», listed, read_from, places_of, lanes_of, ways_count, entries_count, has_tape, tape_meaning};
+ghost use Rattle.tape.specs.TapeReadings.{read_place, read_floor, read_state, leads as leads_from, listed, read_from, places_of, lanes_of, ways_count, entries_count, has_tape, tape_meaning};
 
 use cost::{Cost, CrossingsFirst, Length};
 use rules::{fits, is_place};

@@ -1,5 +1,5 @@
 use Rattle.std.proofs.Common.{[], ◌∷◌, Some, sym, ap, ◌∙◌, arith}
-use Rattle.std.proofs.lemmas.Option.{slice_get_past as nth_past}
+use Rattle.std.proofs.lemmas.Option.{slice_get_past}
 use Rattle.tables.specs.Tapes.{lane_at}
 use Rattle.tape.specs.TapeReadings.{tape_meaning, tape_directory, read_from, lanes_of}
 use Rattle.site.specs.Directories.{user_of}
@@ -10,7 +10,7 @@ pub returns-then-index-ne0 : goal.returns-then-index-ne0
 returns-then-index-ne0 c =
     let s = c.args.self.now in
     let f = c.args.segment in
-    sym (users_are s f _ c.args.index c.segments.ensures c.if-segments-segment.false ∙ nth_past (read_from s.places_count (lane_at (lanes_of s) f) ∷ []) c.args.index (let z = c.if-index-ne0.true in omega arith))
+    sym (users_are s f _ c.args.index c.segments.ensures c.if-segments-segment.false ∙ slice_get_past (read_from s.places_count (lane_at (lanes_of s) f) ∷ []) c.args.index (let z = c.if-index-ne0.true in omega arith))
 
 pub lane-requires : goal.lane-requires
 lane-requires c =
