@@ -206,7 +206,7 @@ impl<'p, 'l> Tape<'p, 'l> {
         requires tape { has_tape self.now ≡ true }
         requires place { place < self.now.places_count }
         requires segment { segment < self.now.lanes_count }
-        ensures { result ≡ leads-from self.now.places_count self.now.lanes_count (places_of self.now) (lanes_of self.now) place segment }
+        ensures { result ≡ leads_from self.now.places_count self.now.lanes_count (places_of self.now) (lanes_of self.now) place segment }
     {
         let lane = self.lane(segment);
         if lane.from != place {
