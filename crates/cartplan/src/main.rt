@@ -3,9 +3,9 @@
 
 mod site_text;
 
-use anyhow::anyhow;
 use site_text::{print_floor, print_tape};
 use sitefile::SiteHead;
+use std::process::ExitCode;
 use std::{env, fs};
 use tables::tape::{MOST_LANES, MOST_PLACES};
 use tables::{Cell, LONGEST_SIDE, Lane, LaneCost, LaneState, Place};
@@ -142,9 +142,9 @@ fn serve(rt: &HostRuntime) -> anyhow::Result<Outcome> {
     }
 }
 
-fn main(rt: HostRuntime) -> anyhow::Result<()> {
+fn main(rt: HostRuntime) -> anyhow::Result<ExitCode> {
     match serve(&rt)? {
-        Outcome::Done => Ok(()),
-        Outcome::Refused => Err(anyhow!("refused")),
+        Outcome::Done => Ok(ExitCode::SUCCESS),
+        Outcome::Refused => Ok(ExitCode::FAILURE),
     }
 }

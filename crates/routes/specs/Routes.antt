@@ -1,5 +1,5 @@
 -- Routes, their costs, and distances. In the field's terms: paths, path costs and shortest distances.
-use Rattle.std.specs.Prelude.{◌≡◌, cond, List, [], ◌∷◌, ℕ, zero, suc, ◌-◌, eqb}
+use Rattle.std.specs.Prelude.{◌≡◌, cond, List, [], ◌∷◌, ℕ, zero, suc, ◌-◌, nat_eq}
 use Rattle.cost.specs.declared.lengths.Length.{Length}
 use Rattle.cost.specs.declared.lengths.Length.TheVariants.{Finite, Infinite}
 use Rattle.cost.specs.Costs.{Kind}
@@ -21,7 +21,7 @@ Route m s t (u ∷ ps) = OpenWay m s u × Route m u t ps
 module _ {C : Type 0} (K : Kind C) (m : Meaning C) where
   -- what a way out of a place costs as a step to u: infinite if it ends elsewhere
   abbrev pub way_to : ℕ → ℕ × ℕ → Length C
-  way_to u w = cond (eqb w.0 u) (m.state w.1) Infinite
+  way_to u w = cond (nat_eq w.0 u) (m.state w.1) Infinite
 
   -- the cost of a step from s to u: that of the cheapest open way; infinite where there is none
   unfoldable pub step : ℕ → ℕ → Length C
@@ -34,7 +34,7 @@ module _ {C : Type 0} (K : Kind C) (m : Meaning C) where
 
   -- the least cost of a route of no steps
   abbrev pub distance_stay : ℕ → ℕ → Length C
-  distance_stay s t = cond (eqb s t) (origin K) Infinite
+  distance_stay s t = cond (nat_eq s t) (origin K) Infinite
 
   -- the least cost of a route from s to t of at most k steps
   unfoldable pub distance_by : ℕ → ℕ → ℕ → Length C

@@ -1,5 +1,5 @@
 -- What a site means, and the rules that it keeps. In the field's terms: a directed graph whose edges are the ways, with changing costs.
-use Rattle.std.specs.Prelude.{◌≡◌, Bool, true, cond, ◌&&◌, ℕ, ◌≤◌, ◌<◌, eqb, length}
+use Rattle.std.specs.Prelude.{◌≡◌, Bool, true, cond, ◌&&◌, ℕ, ◌≤◌, ◌<◌, nat_eq, length}
 use mathlib.Core.List.{List, Memᴰ}
 use Rattle.cost.specs.declared.lengths.Length.{Length}
 use Rattle.cost.specs.declared.lengths.Length.TheVariants.{Finite, Infinite}
@@ -62,7 +62,7 @@ set_segment m f x = record {
   segments = m.segments;
   ways = m.ways;
   floor = m.floor;
-  state = λ g. cond (eqb g f) x (m.state g);
+  state = λ g. cond (nat_eq g f) x (m.state g);
   settable = m.settable;
   hint = m.hint;
 }

@@ -1,5 +1,5 @@
 -- What a sheet keeps for each place, and the orders of places by it. Assumes nothing.
-use Rattle.std.specs.Prelude.{◌≡◌, ℕ, ◌<◌, ◌≤◌, Bool, false, ◌⊎◌, List, length, get_or, ◌≢◌, slice_index_or}
+use Rattle.std.specs.Prelude.{◌≡◌, ℕ, ◌<◌, ◌≤◌, Bool, false, ◌⊎◌, List, length, slice_index_or, ◌≢◌}
 use Rattle.cost.specs.declared.lengths.Length.{Length}
 use Rattle.cost.specs.declared.lengths.Length.TheVariants.{Infinite}
 use Rattle.cost.specs.Costs.{Kind, Laws}
@@ -15,16 +15,16 @@ module _ {C : Type 0} where
   blank = record { estimate = Infinite; distance = Infinite; link = 0; mark = false }
 
   abbrev pub estimate_of : List (Entry C) → ℕ → Length C
-  estimate_of sheet p = (get_or sheet p blank).estimate
+  estimate_of sheet p = (slice_index_or sheet p blank).estimate
 
   abbrev pub distance_of : List (Entry C) → ℕ → Length C
-  distance_of sheet p = (get_or sheet p blank).distance
+  distance_of sheet p = (slice_index_or sheet p blank).distance
 
   abbrev pub link_of : List (Entry C) → ℕ → ℕ
-  link_of sheet p = (get_or sheet p blank).link
+  link_of sheet p = (slice_index_or sheet p blank).link
 
   abbrev pub mark_of : List (Entry C) → ℕ → Bool
-  mark_of sheet p = (get_or sheet p blank).mark
+  mark_of sheet p = (slice_index_or sheet p blank).mark
 
   abbrev pub with_estimate : Entry C → Length C → Entry C
   with_estimate e v = record { estimate = v; distance = e.distance; link = e.link; mark = e.mark }

@@ -1,5 +1,5 @@
 -- The file of a floor. Assumes nothing.
-use Rattle.std.specs.Prelude.{◌≡◌, ℕ, ◌*◌, ◌≤◌, Bool, true, cond, ◌||◌, leb, List, [], ◌∷◌, ◌++◌, length, drop, Ok, Err, Result, ◌==◌, nat_le}
+use Rattle.std.specs.Prelude.{◌≡◌, ℕ, ◌*◌, ◌≤◌, Bool, true, cond, ◌||◌, nat_le, List, [], ◌∷◌, ◌++◌, length, drop, Ok, Err, Result, ◌==◌}
 use Rattle.tables.specs.declared.Cell.{Cell}
 use Rattle.tables.specs.declared.Cell.TheVariants.{Closed, Open}
 use Rattle.tables.specs.declared.FloorHead.{FloorHead}
@@ -55,7 +55,7 @@ pub record HeadRead (entries : ℕ) (bytes : List ℕ) (head : FloorHead) (rest 
   pub rows_ranged : is_side head.rows ≡ true
   pub columns_ranged : is_side head.columns ≡ true
   pub free_ranged : is_free_time head.free ≡ true
-  pub roomy : leb (head.rows * head.columns) entries ≡ true
+  pub roomy : nat_le (head.rows * head.columns) entries ≡ true
 
 -- What reading a floor after the first byte comes to: a floor that the bytes describe, whose cells then stand in the table, or the first fault.
 abbrev pub LoadsFloor : ℕ → List ℕ → List Cell → List Cell → Result FloorHead Fault → Type 0

@@ -1,5 +1,5 @@
 -- The file of a tape. Assumes nothing.
-use Rattle.std.specs.Prelude.{◌≡◌, ℕ, ◌+◌, ◌*◌, ◌/◌, ◌%◌, ◌<◌, ◌≤◌, Bool, true, cond, ◌&&◌, ltb, leb, List, [], ◌∷◌, ◌++◌, length, drop, ℤ, pos, negsuc, Ok, Err, Result, MatchResult, ◌==◌, nat_le, nat_lt, slice_index}
+use Rattle.std.specs.Prelude.{◌≡◌, ℕ, ◌+◌, ◌*◌, ◌/◌, ◌%◌, ◌<◌, ◌≤◌, Bool, true, cond, ◌&&◌, nat_lt, nat_le, List, [], ◌∷◌, ◌++◌, length, drop, ℤ, pos, negsuc, Ok, Err, Result, MatchResult, ◌==◌, slice_index}
 use Rattle.std.specs.List.{AllByRecursion}
 use Rattle.tables.specs.declared.tape.TapeHead.{TapeHead}
 use Rattle.tables.specs.declared.tape.Place.{Place}
@@ -76,7 +76,7 @@ encode_state (Open c) rest = encode 1 ++ encode_cost c rest
 -- from, to, floor cost and state
 abbrev pub lane_format : ℕ → (Lane → Format) → Format
 lane_format count next =
-    field (λ n. ltb n count) (λ from. field (λ n. ltb n count) (λ to. cost_format (λ floor. state_format (λ state. next (lane_of from to floor state)))))
+    field (λ n. nat_lt n count) (λ from. field (λ n. nat_lt n count) (λ to. cost_format (λ floor. state_format (λ state. next (lane_of from to floor state)))))
 
 abbrev pub encode_lane : Lane → List ℕ → List ℕ
 encode_lane l rest = encode l.from ++ (encode l.to ++ encode_cost l.floor (encode_state l.state rest))
@@ -168,7 +168,7 @@ pub record CountsRead (place_entries lane_entries : ℕ) (bytes : List ℕ) (hea
   pub form : bytes ≡ encode head.places ++ (encode head.lanes ++ rest)
   pub places_ranged : between 1 most_places head.places ≡ true
   pub lanes_ranged : between 0 most_lanes head.lanes ≡ true
-  pub roomy : leb head.places place_entries && nat_le head.lanes lane_entries ≡ true
+  pub roomy : nat_le head.places place_entries && nat_le head.lanes lane_entries ≡ true
 
 -- What reading a tape after the first byte comes to: a tape that the bytes describe, whose places and lanes then stand in the tables, or the first fault.
 abbrev pub LoadsTape : ℕ → List ℕ → List Place → List Place → List Lane → List Lane → Result TapeHead Fault → Type 0
