@@ -87,7 +87,7 @@ pub fn is_allowed<C: Cost>(floor: C, state: Length<C>) -> bool
     }
 }
 
-// Sets a segment, or says no and changes nothing. (A parameter of the type `Length<Self::Cost>` is not covered in a trait's method.)
+// Sets a segment, or says no and changes nothing: the one call made of `close` and `set_cost`.
 pub fn set_state<S: Site>(site: &mut S, segment: u16, state: Length<S::Cost>) -> bool
     ensures answer { result ≡ can_set S.Cost.Cost.kind (S.Site.meaning site.old) segment state }
     ensures after { S.Site.meaning site.new ≡ after_set S.Cost.Cost.kind (S.Site.meaning site.old) segment state }
