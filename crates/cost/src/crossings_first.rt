@@ -6,7 +6,7 @@ ghost use Rattle.cost.specs.CrossingsFirstLaws.{crossings_first_laws, crossings_
 use crate::milliseconds::Milliseconds;
 use crate::{Cost, PositiveCost};
 
-#[derive(Clone, Copy, PartialEq, Eq, Debug)]
+#[derive(Clone, Copy, PartialEq, Eq, PartialOrd, Ord, Debug)]
 pub struct CrossingsFirst {
     pub crossings: u32,
     pub time: Milliseconds,
@@ -49,8 +49,7 @@ impl Cost for CrossingsFirst {
     }
 
     fn at_most(self, other: Self) -> bool {
-        self.crossings < other.crossings
-            || (self.crossings == other.crossings && self.time.at_most(other.time))
+        self <= other
     }
 
     fn is_within(self) -> bool {

@@ -4,7 +4,8 @@ ghost use Rattle.cost.specs.Lengths.{Within, length_le, length_within, sum, rema
 
 use crate::Cost;
 
-// An infinite length is above every cost: the length of a route that does not exist, called "none" in what is printed.
+// An infinite length is above every cost: the length of a route that does not exist, called "none" in what is printed. It is no `Option`,
+// whose `None` is the least. Its order is not derived: a kind's order is its `at_most`, and a second one would need a law that they agree.
 #[derive(Clone, Copy, PartialEq, Eq, Debug)]
 pub enum Length<C> {
     Finite(C),

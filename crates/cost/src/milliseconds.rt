@@ -5,7 +5,7 @@ ghost use Rattle.cost.specs.MillisecondsLaws.{milliseconds_laws, milliseconds_po
 use crate::{Cost, PositiveCost};
 
 // The count has 64 bits, since the sum of two counts within the ceiling passes 32.
-#[derive(Clone, Copy, PartialEq, Eq, Debug)]
+#[derive(Clone, Copy, PartialEq, Eq, PartialOrd, Ord, Debug)]
 pub struct Milliseconds {
     pub count: u64,
 }
@@ -30,7 +30,7 @@ impl Cost for Milliseconds {
     }
 
     fn at_most(self, other: Self) -> bool {
-        self.count <= other.count
+        self <= other
     }
 
     fn is_within(self) -> bool {
@@ -38,7 +38,7 @@ impl Cost for Milliseconds {
     }
 
     fn is_segment(self) -> bool {
-        SHORTEST_SEGMENT <= self.count && self.count <= LONGEST_SEGMENT
+        (SHORTEST_SEGMENT..=LONGEST_SEGMENT).contains(&self.count)
     }
 
     fn sum(self, other: Self) -> Self {

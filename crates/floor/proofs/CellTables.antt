@@ -7,8 +7,8 @@ use Rattle.std.proofs.lemmas.Bool.{and_parts, and_from, leb-true, le-leb, cond-t
 use Rattle.std.proofs.lemmas.Bool.Decides.{nat_tests}
 use Rattle.routes.specs.Sites.{set_segment}
 use Rattle.tables.specs.Floors.{is_side, is_free_time, is_cell, AreCells, longest_segment}
-use Rattle.tables.specs.declared.Cell.{Cell}
-use Rattle.tables.specs.declared.Cell.TheVariants.{Closed}
+use Rattle.tables.specs.States.{Cell}
+use Rattle.tables.specs.declared.State.TheVariants.{Closed}
 use Rattle.tables.specs.declared.FloorHead.{FloorHead}
 use Rattle.floor.specs.Grids.{grid, cell_length}
 use Rattle.floor.specs.Floors.{cells_of, SoundFloor}

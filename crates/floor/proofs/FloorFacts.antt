@@ -13,8 +13,8 @@ use Rattle.site.specs.Questions.{WayAt, hint_of, can_set, after_set}
 use Rattle.site.specs.Directories.{Indexed, source_of, user_of}
 use Rattle.site.proofs.Answering.{hint_there}
 use Rattle.tables.specs.Floors.{is_cell}
-use Rattle.tables.specs.declared.Cell.{Cell}
-use Rattle.tables.specs.declared.Cell.TheVariants.{Closed, Open}
+use Rattle.tables.specs.States.{Cell}
+use Rattle.tables.specs.declared.State.TheVariants.{Closed, Open}
 use Rattle.floor.specs.declared.Floor.{Floor}
 use Rattle.floor.specs.Grids.{neighbours, into, cell_length, grid, grid_directory}
 use Rattle.floor.specs.Floors.{cells_of, lone_place, SoundFloor}

@@ -14,8 +14,8 @@ use Rattle.cost.proofs.LengthLemmas.{infinite_not_finite}
 use Rattle.routes.specs.Sites.{Lawful, Way}
 use Rattle.site.specs.Directories.{Indexed}
 use Rattle.tables.specs.Floors.{is_cell, between, longest_segment}
-use Rattle.tables.specs.declared.Cell.{Cell}
-use Rattle.tables.specs.declared.Cell.TheVariants.{Closed, Open}
+use Rattle.tables.specs.States.{Cell}
+use Rattle.tables.specs.declared.State.TheVariants.{Closed, Open}
 use Rattle.tables.specs.declared.FloorHead.{FloorHead}
 use Rattle.floor.specs.Grids.{neighbours, into, apart, cell_length, grid, grid_directory}
 use Rattle.floor.specs.Floors.{lone_place}

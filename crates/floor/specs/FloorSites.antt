@@ -4,8 +4,8 @@ use Rattle.cost.specs.declared.milliseconds.Milliseconds.{Milliseconds}
 use Rattle.routes.specs.Sites.{Meaning}
 use Rattle.site.specs.Directories.{Directory}
 use Rattle.tables.specs.Floors.{is_side, is_free_time, is_cell}
-use Rattle.tables.specs.declared.Cell.{Cell}
-use Rattle.tables.specs.declared.Cell.TheVariants.{Closed}
+use Rattle.tables.specs.States.{Cell}
+use Rattle.tables.specs.declared.State.TheVariants.{Closed}
 use Rattle.tables.specs.declared.FloorHead.{FloorHead}
 use Rattle.floor.specs.declared.Floor.{Floor}
 use Rattle.floor.specs.Grids.{grid, grid_directory}

@@ -5,7 +5,7 @@ use Rattle.cost.specs.declared.milliseconds.Milliseconds.{Milliseconds}
 use Rattle.cost.specs.declared.lengths.Length.TheVariants.{Infinite}
 use Rattle.routes.specs.Sites.{Meaning}
 use Rattle.tables.specs.Floors.{KeepsRanges}
-use Rattle.tables.specs.declared.Cell.{Cell}
+use Rattle.tables.specs.States.{Cell}
 use Rattle.tables.specs.declared.FloorHead.{FloorHead}
 use Rattle.floor.specs.Grids.{grid}
 

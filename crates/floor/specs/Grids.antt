@@ -7,8 +7,8 @@ use Rattle.cost.specs.declared.lengths.Length.{Length}
 use Rattle.cost.specs.declared.lengths.Length.TheVariants.{Finite, Infinite}
 use Rattle.routes.specs.Sites.{Meaning}
 use Rattle.site.specs.Directories.{Directory}
-use Rattle.tables.specs.declared.Cell.{Cell}
-use Rattle.tables.specs.declared.Cell.TheVariants.{Closed, Open}
+use Rattle.tables.specs.States.{Cell}
+use Rattle.tables.specs.declared.State.TheVariants.{Closed, Open}
 use Rattle.tables.specs.declared.FloorHead.{FloorHead}
 
 -- the cells up, right, down and left of a cell, each where there is one

@@ -3,7 +3,7 @@ use Rattle.std.proofs.Common.{◌≡◌, ℕ, ◌+◌, ◌*◌, ◌<◌, ◌≤�
 use lib.Seq.{take-append-le}
 use Rattle.std.proofs.lemmas.List.{take_at, get_or_append_left}
 use Rattle.cost.specs.CrossingsFirst.{pair}
-use Rattle.tables.specs.declared.Cell.{Cell}
+use Rattle.tables.specs.States.{Cell}
 use Rattle.tables.specs.declared.tape.Place.{Place}
 use Rattle.tables.specs.declared.tape.Lane.{Lane}
 use Rattle.tables.specs.declared.tape.TapeHead.{TapeHead}

@@ -7,23 +7,23 @@ ghost use Rattle.refusals.specs.Refusals.{refusal_number};
 #[derive(Clone, Copy, Debug, PartialEq, Eq)]
 pub enum Refusal {
     // The planner is not opened.
-    NotOpened,
+    NotOpened = 1,
     // A place that is named is none of the site's.
-    UnknownPlace,
+    UnknownPlace = 2,
     // The segment is none of the site's.
-    UnknownSegment,
+    UnknownSegment = 3,
     // The segment cannot be set.
-    NotSettable,
+    NotSettable = 4,
     // The new state is neither closed nor a segment cost that is not under the floor.
-    CostOutsideLimits,
+    CostOutsideLimits = 5,
     // The stamp is before the last one that was granted.
-    StampGoingBack,
+    StampGoingBack = 6,
     // Sheet, queue or list has fewer entries than the site has places.
-    ShortMemory,
+    ShortMemory = 7,
     // The estimates on the sheet are not sound.
-    UnsoundSheet,
+    UnsoundSheet = 8,
     // The segment is not barred, and as many others are as there may be.
-    BarsFull,
+    BarsFull = 9,
 }
 
 impl Refusal {
@@ -31,16 +31,6 @@ impl Refusal {
     pub fn number(self) -> u8
         ensures { result ≡ refusal_number self }
     {
-        match self {
-            Refusal::NotOpened => 1,
-            Refusal::UnknownPlace => 2,
-            Refusal::UnknownSegment => 3,
-            Refusal::NotSettable => 4,
-            Refusal::CostOutsideLimits => 5,
-            Refusal::StampGoingBack => 6,
-            Refusal::ShortMemory => 7,
-            Refusal::UnsoundSheet => 8,
-            Refusal::BarsFull => 9,
-        }
+        self as u8
     }
 }

@@ -6,6 +6,8 @@ ghost use Rattle.cost.specs.declared.lengths.Length.TheVariants.{Finite, Infinit
 ghost use Rattle.routes.specs.Sites.{Meaning, Lawful, allowed};
 ghost use Rattle.site.specs.Questions.{WayAt, state_of, floor_of, settable_of, hint_of, can_set, after_set};
 ghost use Rattle.site.specs.Directories.{Directory, Indexed, source_of, user_of};
+ghost use Rattle.site.specs.WaysOut.{ways_of, ways_left};
+ghost use Rattle.std.specs.Iterator.{YieldsFirst, item_count};
 
 use cost::{Cost, Length, PositiveCost};
 
@@ -26,11 +28,9 @@ pub trait Site {
     // Where to look for the ways into a place, and for those over a segment.
     ghost directory: { Self → Directory };
 
-    // The count of places. Every value's meaning keeps the rules, and its directory leaves out no way.
+    // The count of places.
     fn places(&self) -> u16
-        ensures count { result ≡ (meaning self.now).places }
-        ensures lawful { Lawful Self.Cost.Cost.kind (meaning self.now) }
-        ensures indexed { Indexed (meaning self.now) (directory self.now) };
+        ensures { result ≡ (meaning self.now).places };
 
     // The count of segments.
     fn segments(&self) -> u16
@@ -75,6 +75,47 @@ pub trait Site {
         ensures answer { result ≡ can_set Self.Cost.Cost.kind (meaning self.old) segment (Finite cost) }
         ensures after { meaning self.new ≡ after_set Self.Cost.Cost.kind (meaning self.old) segment (Finite cost) }
         ensures directory { directory self.new ≡ directory self.old };
+
+    // Every site keeps the rules of sites.
+    ghost lawful: { (s : Self) → Lawful Self.Cost.Cost.kind (meaning s) };
+
+    // A directory leaves out no way.
+    ghost indexed: { (s : Self) → Indexed (meaning s) (directory s) };
+}
+
+// The ways out of a place, each in its turn.
+#[derive(Drop)]
+pub struct Ways<'a, S> {
+    site: &'a S,
+    place: u16,
+    index: u16,
+}
+
+impl<'a, S: Site> Ways<'a, S> {
+    // All ways out of a place.
+    pub fn of(site: &'a S, place: u16) -> Ways<'a, S>
+        ensures { ways_left S.Site.meaning result ≡ ways_of (S.Site.meaning site.now) place }
+    {
+        Ways {
+            site,
+            place,
+            index: 0,
+        }
+    }
+}
+
+impl<'a, S: Site> Iterator for Ways<'a, S> {
+    type Item = Way;
+
+    ghost next_gives = { YieldsFirst (ways_left S.Site.meaning) };
+
+    ghost remaining = { item_count (ways_left S.Site.meaning) };
+
+    fn next(&mut self) -> Option<Way> {
+        let way = self.site.way(self.place, self.index)?;
+        self.index += 1;
+        Some(way)
+    }
 }
 
 // Whether a segment with this floor may be set so: closed, or to a segment cost not under the floor.
@@ -103,8 +144,5 @@ pub fn cost_over<S: Site>(site: &S, segment: u16) -> Length<S::Cost>
     requires { segment < (S.Site.meaning site.now).segments }
     ensures { result ≡ (S.Site.meaning site.now).state segment }
 {
-    match site.state(segment) {
-        Some(cost) => cost,
-        None => Length::Infinite,
-    }
+    site.state(segment).unwrap_or(Length::Infinite)
 }

@@ -1,8 +1,8 @@
 -- The cells of a floor. Assumes nothing.
 use Rattle.std.proofs.Common.{◌≡◌, ℕ, ◌<◌, ◌≤◌, true, false, eqb, ◌⊎◌, List, ◌++◌, sym, refl, ap, ◌∙◌, subst, arith}
 use Rattle.std.proofs.lemmas.Bool.{or_from, or_right, ne_eqb, cond-false, and_from, le-leb}
-use Rattle.tables.specs.declared.Cell.{Cell}
-use Rattle.tables.specs.declared.Cell.TheVariants.{Closed, Open}
+use Rattle.tables.specs.States.{Cell}
+use Rattle.tables.specs.declared.State.TheVariants.{Closed, Open}
 use Rattle.tables.specs.Floors.{longest_segment, is_cell}
 use Rattle.sitefile.specs.Numbers.{encode}
 use Rattle.sitefile.specs.Formats.{FieldRead}

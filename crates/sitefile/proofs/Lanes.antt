@@ -4,8 +4,8 @@ use Rattle.std.proofs.lemmas.Bool.{eq-eqb, ne_eqb, eqb-true, cond-true, cond-fal
 use Rattle.tables.specs.declared.tape.Place.{Place}
 use Rattle.tables.specs.declared.tape.Lane.{Lane}
 use Rattle.tables.specs.declared.tape.LaneCost.{LaneCost}
-use Rattle.tables.specs.declared.tape.LaneState.{LaneState}
-use Rattle.tables.specs.declared.tape.LaneState.TheVariants.{Closed, Open}
+use Rattle.tables.specs.States.{LaneState}
+use Rattle.tables.specs.declared.State.TheVariants.{Closed, Open}
 use Rattle.tables.specs.Floors.{between, longest_segment}
 use Rattle.tables.specs.Tapes.{farthest, most_places, most_crossings, is_coordinate, is_place, is_lane_cost}
 use Rattle.sitefile.specs.declared.reader.Reader.{Reader}

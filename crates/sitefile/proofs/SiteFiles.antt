@@ -1,6 +1,6 @@
 -- A whole file: the layout of a site, or the first fault, and never both. Assumes nothing.
 use Rattle.std.proofs.Common.{◌≡◌, ℕ, List, ◌∷◌, length, Ok, Err, sym, refl, ap, ◌∙◌, subst, arith}
-use Rattle.tables.specs.declared.Cell.{Cell}
+use Rattle.tables.specs.States.{Cell}
 use Rattle.tables.specs.declared.FloorHead.{FloorHead}
 use Rattle.tables.specs.declared.tape.TapeHead.{TapeHead}
 use Rattle.tables.specs.declared.tape.Place.{Place}

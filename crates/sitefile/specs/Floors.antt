@@ -1,7 +1,7 @@
 -- The file of a floor. Assumes nothing.
 use Rattle.std.specs.Prelude.{◌≡◌, ℕ, ◌*◌, ◌≤◌, Bool, true, cond, ◌||◌, nat_le, List, [], ◌∷◌, ◌++◌, length, drop, Ok, Err, Result, ◌==◌}
-use Rattle.tables.specs.declared.Cell.{Cell}
-use Rattle.tables.specs.declared.Cell.TheVariants.{Closed, Open}
+use Rattle.tables.specs.States.{Cell}
+use Rattle.tables.specs.declared.State.TheVariants.{Closed, Open}
 use Rattle.tables.specs.declared.FloorHead.{FloorHead}
 use Rattle.tables.specs.Floors.{between, longest_segment, is_side, is_free_time, is_cell, FloorDescription, KeepsRanges}
 use Rattle.sitefile.specs.declared.fault.Fault.{Fault}

@@ -1,6 +1,6 @@
 -- Site files of every kind: what they describe, their first fault, and what a load leaves. Assumes nothing.
 use Rattle.std.specs.Prelude.{◌≡◌, ℕ, ◌≤◌, List, [], ◌∷◌, ◌++◌, length, drop, Ok, Err, Result, MatchResult, ◌≢◌}
-use Rattle.tables.specs.declared.Cell.{Cell}
+use Rattle.tables.specs.States.{Cell}
 use Rattle.tables.specs.declared.tape.Place.{Place}
 use Rattle.tables.specs.declared.tape.Lane.{Lane}
 use Rattle.tables.specs.Floors.{FloorDescription, KeepsRanges}

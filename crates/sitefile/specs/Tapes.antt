@@ -5,8 +5,8 @@ use Rattle.tables.specs.declared.tape.TapeHead.{TapeHead}
 use Rattle.tables.specs.declared.tape.Place.{Place}
 use Rattle.tables.specs.declared.tape.Lane.{Lane}
 use Rattle.tables.specs.declared.tape.LaneCost.{LaneCost}
-use Rattle.tables.specs.declared.tape.LaneState.{LaneState}
-use Rattle.tables.specs.declared.tape.LaneState.TheVariants.{Closed, Open}
+use Rattle.tables.specs.States.{LaneState}
+use Rattle.tables.specs.declared.State.TheVariants.{Closed, Open}
 use Rattle.tables.specs.Floors.{between, longest_segment}
 use Rattle.tables.specs.Tapes.{farthest, most_places, most_lanes, most_leaving, most_crossings, is_place, larger_difference, is_lane_cost, is_state_not_under, place_at, leaving, SoundTape}
 use Rattle.sitefile.specs.declared.fault.Fault.{Fault}

@@ -1,8 +1,8 @@
 -- What may stand in a floor's head and cells. Assumes nothing.
 use Rattle.std.specs.Prelude.{◌≡◌, ℕ, ◌*◌, Bool, true, ◌&&◌, List, length, nat_le}
 use Rattle.std.specs.List.{AllByRecursion}
-use Rattle.tables.specs.declared.Cell.{Cell}
-use Rattle.tables.specs.declared.Cell.TheVariants.{Closed, Open}
+use Rattle.tables.specs.States.{Cell}
+use Rattle.tables.specs.declared.State.TheVariants.{Closed, Open}
 use Rattle.tables.specs.declared.FloorHead.{FloorHead}
 
 -- is n at least `lowest` and at most `highest`?

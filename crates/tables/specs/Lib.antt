@@ -2,3 +2,4 @@ pub mod Floors
 pub mod Tapes
 pub mod Texts
 pub mod Verdicts
+pub mod States

@@ -5,8 +5,8 @@ use Rattle.tables.specs.declared.tape.TapeHead.{TapeHead}
 use Rattle.tables.specs.declared.tape.Place.{Place}
 use Rattle.tables.specs.declared.tape.Lane.{Lane}
 use Rattle.tables.specs.declared.tape.LaneCost.{LaneCost}
-use Rattle.tables.specs.declared.tape.LaneState.{LaneState}
-use Rattle.tables.specs.declared.tape.LaneState.TheVariants.{Closed, Open}
+use Rattle.tables.specs.States.{LaneState}
+use Rattle.tables.specs.declared.State.TheVariants.{Closed, Open}
 
 -- how far from (0, 0) a place may lie on each axis, in millimetres
 abbrev pub farthest : ℕ
@@ -57,6 +57,13 @@ is_state_not_under floor (Open c) = not_under floor c
 abbrev pub is_lane_state : LaneCost → LaneState → Bool
 is_lane_state floor Closed = true
 is_lane_state floor (Open c) = is_lane_cost c && not_under floor c
+
+-- the place at these coordinates, and the lane with these ends, floor and state, before the tape has noted anything
+abbrev pub unnoted_place : ℤ → ℤ → Place
+unnoted_place x y = record { x = x; y = y; first = 0; ways = 0; entry_first = 0; entries = 0 }
+
+abbrev pub unnoted_lane : ℕ → ℕ → LaneCost → LaneState → Lane
+unnoted_lane from to floor state = record { from = from; to = to; floor = floor; state = state; entering = 0; slot = 0 }
 
 -- what is read past the end of a table
 abbrev pub no_place : Place

@@ -2,7 +2,7 @@
 #![tactic(auto)]
 
 ghost use Rattle.std.specs.Prelude.{◌≡◌, Some};
-ghost use Rattle.tables.specs.Texts.{cell_text, head_line};
+ghost use Rattle.tables.specs.Texts.{state_text, head_line};
 ghost use Rattle.tables.specs.Verdicts.{verdict_number};
 
 use std::fmt;
@@ -14,40 +14,38 @@ pub use tape::{Lane, LaneCost, LaneState, Place, TapeHead};
 // What is said of a head and its tables, which anybody may have written: whether they keep the rules.
 #[derive(Clone, Copy, Debug, PartialEq, Eq)]
 pub enum Verdict {
-    Sound,
-    Faulty,
+    Sound = 0,
+    Faulty = 28,
 }
 
 impl Verdict {
     pub fn number(self) -> u8
         ensures { result ≡ verdict_number self }
     {
-        match self {
-            Verdict::Sound => 0,
-            Verdict::Faulty => 28,
-        }
+        self as u8
     }
 }
 
-// An entry for each cell of a floor.
+// Whether carts may enter, and what that costs where they may. Not an `Option`: what is closed is said and printed.
 #[derive(Clone, Copy, Debug, PartialEq, Eq)]
-pub enum Cell {
-    // No cart may enter.
+pub enum State<T> {
     Closed,
-    // Entering takes this many milliseconds.
-    Open(u32),
+    Open(T),
 }
 
-impl fmt::Display for Cell {
-    ghost output = { λ cell. Some (cell_text cell) };
+impl<T: fmt::Display> fmt::Display for State<T> {
+    ghost output = { state_text T.Display.output };
 
     fn fmt<W: fmt::Write>(&self, f: &mut fmt::Formatter<W>) -> fmt::Result {
-        match *self {
-            Cell::Closed => write!(f, "-"),
-            Cell::Open(time) => write!(f, "{time}"),
+        match self {
+            State::Closed => write!(f, "-"),
+            State::Open(cost) => write!(f, "{cost}"),
         }
     }
 }
+
+// An entry for each cell of a floor: entering it takes so many milliseconds.
+pub type Cell = State<u32>;
 
 // The numbers that a floor's cells are read by.
 #[derive(Clone, Copy, Debug, PartialEq, Eq)]

@@ -1,8 +1,9 @@
 // The tables of a tape, and what may stand in them.
-ghost use Rattle.std.specs.Prelude.{◌≡◌, true, Some};
-ghost use Rattle.tables.specs.Tapes.{is_place, larger_difference, not_under, is_state_not_under};
-ghost use Rattle.tables.specs.Texts.{tape_line, lane_cost_text, lane_state_text};
+ghost use Rattle.std.specs.Prelude.{◌≡◌, Some};
+ghost use Rattle.tables.specs.Tapes.{larger_difference, not_under, is_state_not_under, unnoted_place, unnoted_lane};
+ghost use Rattle.tables.specs.Texts.{tape_line, lane_cost_text};
 
+use crate::State;
 use std::fmt;
 
 // How far from (0, 0) a place may lie on each axis, in millimetres.
@@ -25,19 +26,14 @@ pub struct TapeHead {
     pub lanes: u32,
 }
 
-// Pedestrian crossings, and milliseconds.
-#[derive(Clone, Copy, Debug, PartialEq, Eq)]
+// Pedestrian crossings, and milliseconds; compared by crossings first.
+#[derive(Clone, Copy, Debug, PartialEq, Eq, PartialOrd, Ord)]
 pub struct LaneCost {
     pub crossings: u32,
     pub milliseconds: u32,
 }
 
-#[derive(Clone, Copy, Debug, PartialEq, Eq)]
-pub enum LaneState {
-    // No cart may enter.
-    Closed,
-    Open(LaneCost),
-}
+pub type LaneState = State<LaneCost>;
 
 // An entry for each place: its coordinates in millimetres, and notes that the tape makes for itself. A customer leaves those 0.
 #[derive(Clone, Copy, Debug, PartialEq, Eq)]
@@ -72,25 +68,27 @@ impl fmt::Display for LaneCost {
     }
 }
 
-impl fmt::Display for LaneState {
-    ghost output = { λ state. Some (lane_state_text state) };
-
-    fn fmt<W: fmt::Write>(&self, f: &mut fmt::Formatter<W>) -> fmt::Result {
-        match *self {
-            LaneState::Closed => write!(f, "-"),
-            LaneState::Open(cost) => write!(f, "{cost}"),
+impl Place {
+    // The place at these coordinates, nothing noted.
+    pub fn at(x: i32, y: i32) -> Place
+        ensures { result ≡ unnoted_place x y }
+    {
+        Place {
+            x,
+            y,
+            first: 0,
+            ways: 0,
+            entry_first: 0,
+            entries: 0,
         }
     }
-}
 
-impl Place {
     // The larger coordinate difference to another place, without sign.
     pub fn larger_difference(self, other: Place) -> u32
-        requires ranged { (is_place self ≡ true) × (is_place other ≡ true) }
         ensures { result ≡ larger_difference self other }
     {
-        let across = (self.x - other.x).unsigned_abs();
-        let along = (self.y - other.y).unsigned_abs();
+        let across = self.x.abs_diff(other.x);
+        let along = self.y.abs_diff(other.y);
         across.max(along)
     }
 }
@@ -100,19 +98,18 @@ impl LaneCost {
     pub fn is_not_under(self, floor: LaneCost) -> bool
         ensures { result ≡ not_under floor self }
     {
-        floor.crossings < self.crossings
-            || (floor.crossings == self.crossings && floor.milliseconds <= self.milliseconds)
+        floor <= self
     }
 }
 
-impl LaneState {
+impl State<LaneCost> {
     // Whether it is closed, or not under a floor.
     pub fn is_not_under(self, floor: LaneCost) -> bool
         ensures { result ≡ is_state_not_under floor self }
     {
         match self {
-            LaneState::Closed => true,
-            LaneState::Open(cost) => cost.is_not_under(floor),
+            State::Closed => true,
+            State::Open(cost) => cost.is_not_under(floor),
         }
     }
 }
@@ -128,4 +125,20 @@ pub struct Lane {
     // In the tape's own order of lanes by their ends: the lane that stands at this entry's number, and where this lane stands.
     pub entering: u16,
     pub slot: u16,
+}
+
+impl Lane {
+    // The lane with these ends, this floor and this state, nothing noted.
+    pub fn new(from: u16, to: u16, floor: LaneCost, state: LaneState) -> Lane
+        ensures { result ≡ unnoted_lane from to floor state }
+    {
+        Lane {
+            from,
+            to,
+            floor,
+            state,
+            entering: 0,
+            slot: 0,
+        }
+    }
 }

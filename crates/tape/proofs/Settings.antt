@@ -12,7 +12,7 @@ use Rattle.site.specs.Questions.{can_set, after_set}
 use Rattle.tables.specs.declared.tape.Place.{Place}
 use Rattle.tables.specs.declared.tape.Lane.{Lane}
 use Rattle.tape.specs.declared.Tape.{Tape}
-use Rattle.tables.specs.declared.tape.LaneState.{LaneState}
+use Rattle.tables.specs.States.{LaneState}
 use Rattle.tape.specs.TapeSites.{length_of}
 use Rattle.cost.specs.declared.lengths.Length.TheVariants.{Infinite}
 use Rattle.tape.proofs.TapeFacts.{directory_as_tape, directory_tape, fit, fits_set, read_as_tape, means_tape, tape_from_segment, in_lanes, lane_there, entry}

@@ -15,8 +15,8 @@ use Rattle.site.specs.Directories.{Indexed}
 use Rattle.tables.specs.declared.tape.Place.{Place}
 use Rattle.tables.specs.declared.tape.Lane.{Lane}
 use Rattle.tables.specs.declared.tape.LaneCost.{LaneCost}
-use Rattle.tables.specs.declared.tape.LaneState.{LaneState}
-use Rattle.tables.specs.declared.tape.LaneState.TheVariants.{Closed, Open}
+use Rattle.tables.specs.States.{LaneState}
+use Rattle.tables.specs.declared.State.TheVariants.{Closed, Open}
 use Rattle.cost.specs.declared.lengths.Length.TheVariants.{Finite, Infinite}
 use Rattle.tape.proofs.Counting.{counted_from, counted_member}
 use Rattle.tape.proofs.Distances.{larger_difference_self, larger_difference_small, larger_difference_step, read_is_place}

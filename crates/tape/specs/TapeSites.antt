@@ -10,8 +10,8 @@ use Rattle.tables.specs.declared.tape.TapeHead.{TapeHead}
 use Rattle.tables.specs.declared.tape.Place.{Place}
 use Rattle.tables.specs.declared.tape.Lane.{Lane}
 use Rattle.tables.specs.declared.tape.LaneCost.{LaneCost}
-use Rattle.tables.specs.declared.tape.LaneState.{LaneState}
-use Rattle.tables.specs.declared.tape.LaneState.TheVariants.{Closed, Open}
+use Rattle.tables.specs.States.{LaneState}
+use Rattle.tables.specs.declared.State.TheVariants.{Closed, Open}
 
 -- a lane's cost, as a cost that is compared by crossings first
 abbrev pub cost_of : LaneCost → CrossingsFirst

@@ -1,7 +1,7 @@
 use Rattle.std.proofs.Common.{sym, refl, arith}
 use Rattle.cost.specs.Milliseconds.{milliseconds}
 use Rattle.cost.specs.declared.lengths.Length.TheVariants.{Infinite}
-use Rattle.tables.specs.declared.Cell.TheVariants.{Closed}
+use Rattle.tables.specs.declared.State.TheVariants.{Closed}
 use Rattle.site.proofs.Answering.{past_refused, refused_kept}
 use Rattle.floor.specs.FloorSites.{floor_meaning}
 use Rattle.floor.proofs.FloorFacts.{cell_there, set_granted, set_after, set_directory}

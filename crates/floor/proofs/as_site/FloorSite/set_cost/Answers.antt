@@ -2,7 +2,7 @@ use Rattle.std.proofs.Common.{◌≡◌, true, sym, refl, ap, ◌∙◌, arith}
 use Rattle.cost.specs.Milliseconds.{ms, milliseconds}
 use Rattle.cost.specs.declared.lengths.Length.TheVariants.{Finite}
 use Rattle.routes.specs.Sites.{allowed}
-use Rattle.tables.specs.declared.Cell.TheVariants.{Open}
+use Rattle.tables.specs.declared.State.TheVariants.{Open}
 use Rattle.site.proofs.Answering.{past_refused, not_allowed_refused, refused_kept}
 use Rattle.floor.specs.FloorSites.{floor_meaning}
 use Rattle.floor.proofs.FloorFacts.{floor_there, cell_there, set_granted, set_after, set_directory, allowed_cell}

@@ -1,6 +1,6 @@
 use Rattle.std.proofs.Common.{◌∙◌}
 use Rattle.std.proofs.lemmas.Result.{err_from_is_err_and}
-use Rattle.tables.specs.declared.tape.LaneState.TheVariants.{Open}
+use Rattle.tables.specs.declared.State.TheVariants.{Open}
 use Rattle.sitefile.specs.Formats.{here}
 use Rattle.sitefile.proofs.Fields.{fault_at}
 use Rattle.sitefile.proofs.Lanes.{open_then}

@@ -1,5 +1,5 @@
 use Rattle.std.proofs.Common.{sym, refl, arith}
-use Rattle.tables.specs.declared.tape.LaneState.TheVariants.{Closed}
+use Rattle.tables.specs.declared.State.TheVariants.{Closed}
 use Rattle.tape.proofs.TapeFacts.{lane_there}
 use Rattle.tape.proofs.Settings.{set_granted, set_after, directory_after}
 use Rattle.tape.proofs.tape_site.TapeSite.close.Goals as goal

@@ -4,7 +4,7 @@ use Rattle.cost.specs.declared.lengths.Length.TheVariants.{Finite}
 use Rattle.routes.specs.Sites.{allowed}
 use Rattle.site.specs.Questions.{can_set, after_set}
 use Rattle.tables.specs.Tapes.{lane_at}
-use Rattle.tables.specs.declared.tape.LaneState.TheVariants.{Open}
+use Rattle.tables.specs.declared.State.TheVariants.{Open}
 use Rattle.tape.specs.TapeSites.{cost_of, length_of}
 use Rattle.tape.specs.TapeReadings.{tape_meaning, read_floor, lanes_of}
 use Rattle.tape.proofs.TapeLaws.{allowed_segment}
