@@ -64,7 +64,8 @@ pub trait Site {
     fn hint(&self, place: u16, target: u16) -> Option<Self::Cost>
         ensures { result ≡ hint_of (meaning self.now) place target };
 
-    // Closes a segment that exists and can be set; of any other it says no and changes nothing.
+    // Closes a segment that exists and can be set; of any other it says no and changes nothing. Not one method with `set_cost`, which would
+    // take a `Length`: each site would have to write that method's three clauses again.
     fn close(&mut self, segment: u16) -> bool
         ensures answer { result ≡ can_set Self.Cost.Cost.kind (meaning self.old) segment Infinite }
         ensures after { meaning self.new ≡ after_set Self.Cost.Cost.kind (meaning self.old) segment Infinite }
