@@ -1,5 +1,6 @@
 -- Bars over a site: the site below, with some segments closed and not settable. Assumes nothing.
-use Rattle.std.specs.Prelude.{ℕ, min, Bool, false, cond, ◌||◌, List, [], ◌∷◌, ◌++◌, length, take, Result, ◌==◌, nat_lt}
+use Rattle.std.specs.Prelude.{ℕ, Bool, false, cond, ◌||◌, List, [], ◌∷◌, ◌++◌, length, Result, ◌==◌, nat_lt}
+use Rattle.std.specs.List.{list_any}
 use Rattle.routes.specs.Sites.{Meaning}
 use Rattle.refusals.specs.Refusals.{first_no}
 use Rattle.refusals.specs.declared.Refusal.{Refusal}
@@ -17,12 +18,11 @@ below b = b.site
 
 -- the barred segments, in the order in which they were named
 abbrev pub barred : {S : Type 0} → Bars S → List ℕ
-barred b = take (min b.count most_bars) b.numbers
+barred b = b.barred.items
 
 -- is f one of these numbers?
 abbrev pub among : List ℕ → ℕ → Bool
-among [] f = false
-among (x ∷ xs) f = x == f || among xs f
+among xs f = list_any (λ x. x == f) xs
 
 -- a site with these segments barred: closed, and not settable
 abbrev pub barred_site : {C : Type 0} → Meaning C → List ℕ → Meaning C

@@ -5,6 +5,7 @@ ghost use Rattle.std.specs.Prelude.{◌≡◌, [], ◌∷◌, if◌then◌else�
 ghost use Rattle.bars.specs.Barred.{below, barred, among, barred_site, bars_meaning, with_bar, bar_answer};
 ghost use Rattle.refusals.specs.Refusals.{is_granted};
 
+use arrayvec::ArrayVec;
 use cost::{Cost, Length};
 use refusals::Refusal;
 use site::{Site, Way};
@@ -15,21 +16,8 @@ pub const MOST_BARS: usize = 64;
 #[derive(Drop)]
 pub struct Bars<S> {
     site: S,
-    // The barred segments are the first `count` numbers.
-    numbers: [u16; MOST_BARS],
-    count: usize,
-}
-
-// Whether a number is one of these.
-fn is_among(numbers: &[u16], number: u16) -> bool
-    ensures { result ≡ among numbers.now number }
-{
-    for listed in numbers {
-        if *listed == number {
-            return true;
-        }
-    }
-    false
+    // The barred segments, in the order in which they were named.
+    barred: ArrayVec<u16, MOST_BARS>,
 }
 
 impl<S: Site> Bars<S> {
@@ -41,8 +29,7 @@ impl<S: Site> Bars<S> {
     {
         Bars {
             site,
-            numbers: [0; MOST_BARS],
-            count: 0,
+            barred: ArrayVec::new(),
         }
     }
 
@@ -59,20 +46,14 @@ impl<S: Site> Bars<S> {
         if self.is_barred(segment) {
             return Ok(());
         }
-        if self.count >= MOST_BARS {
-            return Err(Refusal::BarsFull);
-        }
-        self.numbers[self.count] = segment;
-        self.count += 1;
-        Ok(())
+        self.barred.try_push(segment).map_err(|_| Refusal::BarsFull)
     }
 
     // Whether a segment is barred here. One that only bars below it bar is not.
     pub fn is_barred(&self, segment: u16) -> bool
         ensures { result ≡ among (barred self.now) segment }
     {
-        let count = self.count.min(MOST_BARS);
-        is_among(&self.numbers[0..count], segment)
+        self.barred.contains(&segment)
     }
 }
 
@@ -108,27 +89,19 @@ impl<S: Site> Site for Bars<S> {
     }
 
     fn state(&self, segment: u16) -> Option<Length<S::Cost>> {
-        let below = self.site.state(segment);
-        if self.is_barred(segment) {
-            match below {
-                Some(_) => Some(Length::Infinite),
-                None => None,
+        self.site.state(segment).map(|below| {
+            if self.is_barred(segment) {
+                Length::Infinite
+            } else {
+                below
             }
-        } else {
-            below
-        }
+        })
     }
 
     fn settable(&self, segment: u16) -> Option<bool> {
-        let below = self.site.settable(segment);
-        if self.is_barred(segment) {
-            match below {
-                Some(_) => Some(false),
-                None => None,
-            }
-        } else {
-            below
-        }
+        self.site
+            .settable(segment)
+            .map(|below| below && !self.is_barred(segment))
     }
 
     fn hint(&self, place: u16, target: u16) -> Option<S::Cost> {
@@ -136,16 +109,10 @@ impl<S: Site> Site for Bars<S> {
     }
 
     fn close(&mut self, segment: u16) -> bool {
-        if self.is_barred(segment) {
-            return false;
-        }
-        self.site.close(segment)
+        !self.is_barred(segment) && self.site.close(segment)
     }
 
     fn set_cost(&mut self, segment: u16, cost: S::Cost) -> bool {
-        if self.is_barred(segment) {
-            return false;
-        }
-        self.site.set_cost(segment, cost)
+        !self.is_barred(segment) && self.site.set_cost(segment, cost)
     }
 }
