@@ -3,6 +3,7 @@
 
 ghost use Rattle.std.specs.Prelude.{◌≡◌, [], ◌∷◌, if◌then◌else◌};
 ghost use Rattle.bars.specs.Barred.{below, barred, among, barred_site, bars_meaning, with_bar, bar_answer};
+ghost use Rattle.bars.specs.BarsLaws.{bars_lawful, bars_indexed};
 ghost use Rattle.refusals.specs.Refusals.{is_granted};
 
 use arrayvec::ArrayVec;
@@ -63,6 +64,10 @@ impl<S: Site> Site for Bars<S> {
     ghost meaning = { bars_meaning S.Site.meaning };
 
     ghost directory = { λ b. S.Site.directory (below b) };
+
+    ghost lawful = { λ b. bars_lawful (barred b) (S.Site.lawful (below b)) };
+
+    ghost indexed = { λ b. bars_indexed (barred b) (S.Site.indexed (below b)) };
 
     fn places(&self) -> u16 {
         self.site.places()
