@@ -1,5 +1,1 @@
-pub mod Presence
-pub mod CellTables
-pub mod GridWays
-pub mod GridLaws
-pub mod FloorFacts
+pub mod SoundFloors

@@ -1,51 +1,37 @@
--- What every value of the type Floor means, whatever its fields hold. Assumes nothing.
-use Rattle.std.specs.Prelude.{ℕ, ◌*◌, Bool, true, cond, ◌&&◌, List, [], ◌∷◌, map, length, nat_le}
+-- What a floor means: its grid, or one place where it has none. Assumes nothing.
+use Rattle.std.specs.Prelude.{[], Option, Some, None}
 use Rattle.cost.specs.declared.milliseconds.Milliseconds.{Milliseconds}
 use Rattle.routes.specs.Sites.{Meaning}
 use Rattle.site.specs.Directories.{Directory}
-use Rattle.tables.specs.Floors.{is_side, is_free_time, is_cell}
-use Rattle.tables.specs.States.{Cell}
-use Rattle.tables.specs.declared.State.TheVariants.{Closed}
 use Rattle.tables.specs.declared.FloorHead.{FloorHead}
+use Rattle.floor.specs.declared.grid.Grid.{Grid}
 use Rattle.floor.specs.declared.Floor.{Floor}
 use Rattle.floor.specs.Grids.{grid, grid_directory}
-use Rattle.floor.specs.Floors.{cells_of, lone_place}
+use Rattle.floor.specs.Floors.{lone_place}
 
--- are the head's numbers in their ranges?
-abbrev pub is_head : FloorHead → Bool
-is_head head = is_side head.rows && is_side head.columns && is_free_time head.free
+-- the numbers that a grid keeps
+abbrev pub head_of : Grid → FloorHead
+head_of g = record { rows = g.rows; columns = g.columns; free = g.free }
 
--- are they, and has the table an entry for each cell?
-unfoldable pub fits_table : FloorHead → List Cell → Bool
-fits_table head table = is_head head && nat_le (head.rows * head.columns) (length table)
+-- the site of a grid
+abbrev pub grid_of : Grid → Meaning Milliseconds
+grid_of g = grid (head_of g) g.cells.now
 
--- is each of these cells in its range?
-abbrev pub are_cells : ℕ → List Cell → Bool
-are_cells free [] = true
-are_cells free (cell ∷ cells) = is_cell free cell && are_cells free cells
+-- the site of a grid, or one place where there is none
+abbrev pub grid_or_place : Option Grid → Meaning Milliseconds
+grid_or_place (Some g) = grid_of g
+grid_or_place None = lone_place
 
--- a cell as it is read: closed, where it is out of its range
-abbrev pub read_cell : ℕ → Cell → Cell
-read_cell free cell = cond (is_cell free cell) cell Closed
-
-abbrev pub read_cells : FloorHead → List Cell → List Cell
-read_cells head table = map (read_cell head.free) (cells_of head table)
-
--- the numbers that a floor keeps
-abbrev pub head_of : Floor → FloorHead
-head_of s = record { rows = s.rows; columns = s.columns; free = s.free }
-
--- has the floor a grid? A new floor over a faulty table keeps 0 rows, so it has none.
-abbrev pub has_grid : Floor → Bool
-has_grid s = fits_table (head_of s) s.cells.now
-
--- the grid of the cells as they are read, or one place
-unfoldable pub floor_meaning : Floor → Meaning Milliseconds
-floor_meaning s = cond (has_grid s) (grid (head_of s) (read_cells (head_of s) s.cells.now)) lone_place
+abbrev pub floor_meaning : Floor → Meaning Milliseconds
+floor_meaning s = grid_or_place s.grid
 
 -- one place has no way into it
 abbrev pub no_directory : Directory
 no_directory = record { sources = λ _. []; users = λ _. [] }
 
-unfoldable pub floor_directory : Floor → Directory
-floor_directory s = cond (has_grid s) (grid_directory (head_of s)) no_directory
+abbrev pub directory_of : Option Grid → Directory
+directory_of (Some g) = grid_directory (head_of g)
+directory_of None = no_directory
+
+abbrev pub floor_directory : Floor → Directory
+floor_directory s = directory_of s.grid

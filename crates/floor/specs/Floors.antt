@@ -1,13 +1,22 @@
 -- Which heads and tables describe a floor, and which site stands on any of them. Assumes nothing.
-use Rattle.std.specs.Prelude.{◌≡◌, ◌*◌, false, List, [], take}
+use Rattle.std.specs.Prelude.{◌≡◌, ℕ, ◌*◌, Bool, false, ◌&&◌, List, [], take}
+use Rattle.std.specs.List.{list_all}
 use Rattle.cost.specs.Milliseconds.{ms}
 use Rattle.cost.specs.declared.milliseconds.Milliseconds.{Milliseconds}
 use Rattle.cost.specs.declared.lengths.Length.TheVariants.{Infinite}
 use Rattle.routes.specs.Sites.{Meaning}
-use Rattle.tables.specs.Floors.{KeepsRanges}
+use Rattle.tables.specs.Floors.{is_side, is_free_time, is_cell, KeepsRanges}
 use Rattle.tables.specs.States.{Cell}
 use Rattle.tables.specs.declared.FloorHead.{FloorHead}
 use Rattle.floor.specs.Grids.{grid}
+
+-- are the head's numbers in their ranges?
+abbrev pub is_head : FloorHead → Bool
+is_head head = is_side head.rows && is_side head.columns && is_free_time head.free
+
+-- is each of these cells in its range?
+abbrev pub are_cells : ℕ → List Cell → Bool
+are_cells free cells = list_all (is_cell free) cells
 
 -- the entries that are cells of the floor: the first rows × columns of them
 abbrev pub cells_of : FloorHead → List Cell → List Cell

@@ -1,6 +1,7 @@
 -- A grid of cells. The cell at row r, column c is number r × columns + c: a place, and the segment that is used to enter it. Assumes nothing.
-use Rattle.std.specs.Prelude.{ℕ, ◌+◌, ◌-◌, ◌*◌, ◌/◌, ◌%◌, true, cond, List, [], ◌∷◌, map, Some, None, Option, nat_lt, slice_index_or}
+use Rattle.std.specs.Prelude.{ℕ, ◌+◌, ◌-◌, ◌*◌, ◌/◌, ◌%◌, true, cond, List, [], ◌∷◌, map, Option, nat_lt, slice_index_or}
 use Rattle.std.specs.Bool.{then_some}
+use Rattle.std.specs.List.{filter_map}
 use Rattle.cost.specs.Milliseconds.{ms}
 use Rattle.cost.specs.declared.milliseconds.Milliseconds.{Milliseconds}
 use Rattle.cost.specs.declared.lengths.Length.{Length}
@@ -22,9 +23,7 @@ around rows columns row column =
 
 -- what is there of a list of options, in order
 abbrev pub present : {X : Type 0} → List (Option X) → List X
-present [] = []
-present (None ∷ xs) = present xs
-present (Some x ∷ xs) = x ∷ present xs
+present xs = filter_map (λ x. x) xs
 
 -- the neighbours of cell p, in that order; a number that is no cell has none
 abbrev pub neighbours : ℕ → ℕ → ℕ → List ℕ

@@ -1,25 +1,22 @@
 // A floor: a grid of cells over a table that the customer lends.
 #![tactic(auto)]
 
-ghost use Rattle.floor.specs.FloorSites.{floor_meaning, has_grid, head_of};
 ghost use Rattle.floor.specs.Floors.{SiteOver};
-ghost use Rattle.std.specs.Prelude.{◌≡◌};
+ghost use Rattle.floor.specs.FloorSites.{floor_meaning};
 
-use tables::{Cell, FloorHead, Verdict};
+use tables::{Cell, FloorHead};
 
 mod as_site;
-mod nearby;
+mod grid;
 mod rules;
 
+use grid::Grid;
 pub use rules::verdict;
 
-// Its meaning depends on nothing that must hold between the fields, since a struct that holds a `&mut` can keep no such fact.
 #[derive(Drop)]
 pub struct Floor<'a> {
-    rows: u16,
-    columns: u16,
-    free: u32,
-    cells: &'a mut [Cell],
+    // Absent over a faulty head or table: then the floor is one place with no segment.
+    grid: Option<Grid<'a>>,
 }
 
 impl<'a> Floor<'a> {
@@ -27,36 +24,8 @@ impl<'a> Floor<'a> {
     pub fn new(head: FloorHead, cells: &'a mut [Cell]) -> Floor<'a>
         ensures { SiteOver head cells.old (floor_meaning result) }
     {
-        match verdict(head, cells) {
-            Verdict::Sound => Floor {
-                rows: head.rows as u16,
-                columns: head.columns as u16,
-                free: head.free,
-                cells,
-            },
-            Verdict::Faulty => Floor {
-                rows: 0,
-                columns: 0,
-                free: 0,
-                cells,
-            },
+        Floor {
+            grid: Grid::new(head, cells),
         }
-    }
-
-    fn head(&self) -> FloorHead
-        ensures { result ≡ head_of self.now }
-    {
-        FloorHead {
-            rows: self.rows as u32,
-            columns: self.columns as u32,
-            free: self.free,
-        }
-    }
-
-    // Whether the numbers are in range, and the table has an entry for each cell.
-    fn has_grid(&self) -> bool
-        ensures { result ≡ has_grid self.now }
-    {
-        rules::fits(self.head(), self.cells)
     }
 }

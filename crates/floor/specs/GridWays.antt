@@ -1,11 +1,12 @@
 -- The ways of a grid: where they lead, and from where they are found. Assumes nothing.
-use Rattle.std.proofs.Common.{◌≡◌, ℕ, ◌+◌, ◌-◌, ◌*◌, ◌/◌, ◌%◌, ◌<◌, ◌≤◌, ltb, List, [], ◌∷◌, map, length, sym, ap, ◌∙◌, subst, ⊎_elim, mul-zero, arith}
+use Rattle.std.proofs.Common.{◌≡◌, ℕ, ◌+◌, ◌-◌, ◌*◌, ◌/◌, ◌%◌, ◌<◌, ◌≤◌, Bool, true, List, [], ◌∷◌, map, length, Some, sym, ap, ◌∙◌, subst, ⊎_elim, mul-zero, arith}
 use mathlib.Core.List.Memᴰ
 use mathlib.Core.List.{Memᴰ}
+use Rattle.std.specs.Bool.{then_some}
 use Rattle.std.proofs.lemmas.Nat.{mul-add-lt, div-add-mod', div-mul-add, mod-mul-add, div_below, mod_below}
 use Rattle.std.proofs.lemmas.Bool.{ltb-true, lt-ltb, le-ltb, cond-true, cond-false, cases_lt}
 use Rattle.floor.specs.Grids.{around, present, neighbours, into}
-use Rattle.floor.proofs.Presence.{length_present, each_present, each_if, when_here, when_later}
+use Rattle.floor.specs.Presence.{length_present, present_from, from_present, some_if, if_some}
 
 -- a way into u over f, among those into some cells
 pub way_into : (cells : List ℕ) (u f : ℕ) → Memᴰ (u, f) (map into cells) → Memᴰ u cells × (f ≡ u)
@@ -45,22 +46,26 @@ module _ (rows columns row column : ℕ) where
       → (0 < column → P (row * columns + (column - 1)))
       → (u : ℕ) → Memᴰ u (present (around rows columns row column)) → P u
   each_around P up right down left u is =
-      each_present P (around rows columns row column) u
-      (each_if P _ _ _ (λ e. up (ltb-true 0 row e)) (each_if P _ _ _ (λ e. right (ltb-true (column + 1) columns e)) (each_if P _ _ _ (λ e. down (ltb-true (row + 1) rows e)) (each_if P _ _ [] (λ e. left (ltb-true 0 column e)) tt))))
-      is
+      let one : (b : Bool) (x : ℕ) → (b ≡ true → P x) → Some u ≡ then_some b x → P u = λ b x holds e. let h = some_if b x u e in subst P (sym h.1) (holds h.0) in
+      ⊎_elim (one _ _ (λ e. up (ltb-true 0 row e)))
+      (λ rest. ⊎_elim (one _ _ (λ e. right (ltb-true (column + 1) columns e)))
+      (λ rest. ⊎_elim (one _ _ (λ e. down (ltb-true (row + 1) rows e)))
+      (λ rest. ⊎_elim (one _ _ (λ e. left (ltb-true 0 column e)))
+      (λ none. absurd (Memᴰ.not-nil none))
+      (Memᴰ.cases_cons rest)) (Memᴰ.cases_cons rest)) (Memᴰ.cases_cons rest)) (Memᴰ.cases_cons (from_present u (around rows columns row column) is))
 
   -- the four neighbours, each where there is one
   up_there : 0 < row → Memᴰ ((row - 1) * columns + column) (present (around rows columns row column))
-  up_there h = when_here (ltb 0 row) ((row - 1) * columns + column) _ (lt-ltb 0 row h)
+  up_there h = present_from _ (around rows columns row column) (Memᴰ.head (if_some _ _ (lt-ltb 0 row h)))
 
   right_there : column + 1 < columns → Memᴰ (row * columns + (column + 1)) (present (around rows columns row column))
-  right_there h = when_later (ltb 0 row) _ _ _ (when_here (ltb (column + 1) columns) (row * columns + (column + 1)) _ (lt-ltb (column + 1) columns h))
+  right_there h = present_from _ (around rows columns row column) (Memᴰ.tail (Memᴰ.head (if_some _ _ (lt-ltb (column + 1) columns h))))
 
   down_there : row + 1 < rows → Memᴰ ((row + 1) * columns + column) (present (around rows columns row column))
-  down_there h = when_later (ltb 0 row) _ _ _ (when_later (ltb (column + 1) columns) _ _ _ (when_here (ltb (row + 1) rows) ((row + 1) * columns + column) _ (lt-ltb (row + 1) rows h)))
+  down_there h = present_from _ (around rows columns row column) (Memᴰ.tail (Memᴰ.tail (Memᴰ.head (if_some _ _ (lt-ltb (row + 1) rows h)))))
 
   left_there : 0 < column → Memᴰ (row * columns + (column - 1)) (present (around rows columns row column))
-  left_there h = when_later (ltb 0 row) _ _ _ (when_later (ltb (column + 1) columns) _ _ _ (when_later (ltb (row + 1) rows) _ _ _ (when_here (ltb 0 column) (row * columns + (column - 1)) _ (lt-ltb 0 column h))))
+  left_there h = present_from _ (around rows columns row column) (Memᴰ.tail (Memᴰ.tail (Memᴰ.tail (Memᴰ.head (if_some _ _ (lt-ltb 0 column h))))))
 
   -- the neighbours of the cell at a row and a column
   pub neighbours_at : row < rows → column < columns → neighbours rows columns (row * columns + column) ≡ present (around rows columns row column)
