@@ -4,11 +4,8 @@
 use refusals::Refusal;
 
 // 0 where the call was granted, else the number of the refusal.
-pub fn number(answer: Result<(), Refusal>) -> u8 {
-    match answer {
-        Ok(()) => 0,
-        Err(refusal) => refusal.number(),
-    }
+pub fn number<T: Drop>(answer: Result<T, Refusal>) -> u8 {
+    answer.err().map_or(0, Refusal::number)
 }
 
 #[cfg(test)]

@@ -3,38 +3,31 @@
 
 use cost::{Length, Milliseconds};
 use site::Site;
+use std::array;
 
 #[cfg(test)]
 mod floor_tests;
 
 // The end of a way whose segment has the number of that end.
 fn end<S: Site>(site: &S, place: u16, index: u16) -> Option<u16> {
-    match site.way(place, index) {
-        Some(way) if way.segment == way.end => Some(way.end),
-        _ => None,
-    }
+    let way = site.way(place, index)?;
+    (way.segment == way.end).then_some(way.end)
 }
 
 // Where a place's first four ways lead.
 pub fn ends<S: Site>(site: &S, place: u16) -> [Option<u16>; 4] {
-    [
-        end(site, place, 0),
-        end(site, place, 1),
-        end(site, place, 2),
-        end(site, place, 3),
-    ]
+    array::from_fn(|index| end(site, place, index as u16))
 }
 
 // The milliseconds of a segment's present state: 0 for closed, and absent for no segment.
 fn time<S: Site<Cost = Milliseconds>>(site: &S, segment: u16) -> Option<u64> {
-    match site.state(segment) {
-        Some(Length::Finite(cost)) => Some(cost.count),
-        Some(Length::Infinite) => Some(0),
-        None => None,
-    }
+    site.state(segment).map(|state| match state {
+        Length::Finite(cost) => cost.count,
+        Length::Infinite => 0,
+    })
 }
 
 // The same of the first four segments.
 pub fn times<S: Site<Cost = Milliseconds>>(site: &S) -> [Option<u64>; 4] {
-    [time(site, 0), time(site, 1), time(site, 2), time(site, 3)]
+    array::from_fn(|segment| time(site, segment as u16))
 }
