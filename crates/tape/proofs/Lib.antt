@@ -1,8 +1,6 @@
-pub mod Counting
-pub mod Distances
+pub mod Sameness
 pub mod Checking
-pub mod TapeLaws
-pub mod TapeFacts
+pub mod Questions
 pub mod Settings
+pub mod Parts
 pub mod Building
-pub mod SoundSites

@@ -1,2 +1,7 @@
 pub mod TapeSites
-pub mod TapeReadings
+pub mod TapeTables
+pub mod TapeMeaning
+pub mod Counting
+pub mod Distances
+pub mod SoundSites
+pub mod TapeLaws

@@ -1,11 +1,11 @@
 -- The site that a head and its tables describe. Assumes nothing.
-use Rattle.std.specs.Prelude.{◌≡◌, Bool, true, false, List, [], take}
+use Rattle.std.specs.Prelude.{◌≡◌, ℕ, Bool, true, false, ◌&&◌, List, [], take, nat_le}
 use Rattle.cost.specs.CrossingsFirst.{pair, crossings_first}
 use Rattle.cost.specs.declared.crossings_first.CrossingsFirst.{CrossingsFirst}
 use Rattle.cost.specs.declared.lengths.Length.{Length}
 use Rattle.cost.specs.declared.lengths.Length.TheVariants.{Finite, Infinite}
 use Rattle.routes.specs.Sites.{Meaning, Lawful}
-use Rattle.tables.specs.Tapes.{larger_difference, place_at, lane_at, leaving, SoundTape}
+use Rattle.tables.specs.Tapes.{most_places, most_lanes, larger_difference, place_at, lane_at, leaving, SoundTape}
 use Rattle.tables.specs.declared.tape.TapeHead.{TapeHead}
 use Rattle.tables.specs.declared.tape.Place.{Place}
 use Rattle.tables.specs.declared.tape.Lane.{Lane}
@@ -59,7 +59,6 @@ pub record SiteOver (head : TapeHead) (places : List Place) (lanes : List Lane) 
   pub sound : SoundTape head places lanes → site ≡ tape_site head places lanes
   pub faulty : (SoundTape head places lanes → ⊥) → site ≡ one_place
 
--- an answer tells whether P holds
-abbrev pub Tells : Bool → Type 0 → Type 0
-Tells true P = P
-Tells false P = P → ⊥
+-- the counts of a head are in range, and tables of these lengths have an entry for each place and lane
+abbrev pub fitting : TapeHead → ℕ → ℕ → Bool
+fitting head places lanes = nat_le 1 head.places && nat_le head.places most_places && nat_le head.lanes most_lanes && nat_le head.places places && nat_le head.lanes lanes

@@ -1,10 +1,9 @@
 // A tape is a site. Each question looks at a few entries of the tables only.
-ghost use Rattle.tape.specs.TapeReadings.{tape_meaning, tape_directory};
+ghost use Rattle.tape.specs.TapeMeaning.{tape_meaning, tape_directory};
+ghost use Rattle.tape.specs.TapeLaws.{tape_lawful, tape_indexed};
 
-use crate::{
-    Tape, entries_read, floor_read, from_read, lane_cost, place_read, state_read, ways_read,
-};
-use cost::{Cost, CrossingsFirst, Length};
+use crate::{Tape, cost_of, lane_cost, length_of};
+use cost::{CrossingsFirst, Length};
 use site::{Site, Way, is_allowed};
 use tables::LaneState;
 
@@ -15,88 +14,55 @@ impl Site for Tape<'_, '_> {
 
     ghost directory = { tape_directory };
 
+    ghost lawful = { tape_lawful };
+
+    ghost indexed = { tape_indexed };
+
     fn places(&self) -> u16 {
-        if self.has_tape() {
-            self.places_count
-        } else {
-            1
-        }
+        (self.places.len() as u16).max(1)
     }
 
     fn segments(&self) -> u16 {
-        if self.has_tape() { self.lanes_count } else { 0 }
+        self.lanes.len() as u16
     }
 
     fn way(&self, place: u16, index: u16) -> Option<Way> {
-        if !self.has_tape() {
-            return None;
-        }
-        if self.places_count <= place {
-            return None;
-        }
-        let here = self.place(place);
-        if ways_read(self.lanes_count, here) <= index {
+        let here = self.places.get(place as usize)?;
+        if here.ways <= index {
             return None;
         }
         let segment = here.first + index;
-        let end = if self.leads(place, segment) {
-            self.lane(segment).to
-        } else {
-            place
-        };
+        let end = self.lanes[segment as usize].to;
         Some(Way { end, segment })
     }
 
     fn source(&self, place: u16, index: u16) -> Option<u16> {
-        if !self.has_tape() {
+        let here = self.places.get(place as usize)?;
+        if here.entries <= index {
             return None;
         }
-        if self.places_count <= place {
-            return None;
-        }
-        let here = self.place(place);
-        if entries_read(self.lanes_count, here) <= index {
-            return None;
-        }
-        let lane = self.lane(here.entry_first + index).entering;
-        if self.lanes_count <= lane {
-            return Some(0);
-        }
-        Some(from_read(self.places_count, self.lane(lane)))
+        let entry = here.entry_first + index;
+        let lane = self.lanes[entry as usize].entering;
+        Some(self.lanes[lane as usize].from)
     }
 
     fn user(&self, segment: u16, index: u16) -> Option<u16> {
-        if self.segments() <= segment {
-            return None;
-        }
-        if index != 0 {
-            return None;
-        }
-        Some(from_read(self.places_count, self.lane(segment)))
+        let from = self.lanes.get(segment as usize)?.from;
+        (index == 0).then_some(from)
     }
 
     fn floor(&self, segment: u16) -> Option<CrossingsFirst> {
-        if segment < self.segments() {
-            Some(floor_read(self.lane(segment)))
-        } else {
-            None
-        }
+        let floor = self.lanes.get(segment as usize)?.floor;
+        Some(cost_of(floor))
     }
 
     fn state(&self, segment: u16) -> Option<Length<CrossingsFirst>> {
-        if segment < self.segments() {
-            Some(state_read(self.lane(segment)))
-        } else {
-            None
-        }
+        let state = self.lanes.get(segment as usize)?.state;
+        Some(length_of(state))
     }
 
     fn settable(&self, segment: u16) -> Option<bool> {
-        if segment < self.segments() {
-            Some(true)
-        } else {
-            None
-        }
+        (segment < self.segments()).then_some(true)
     }
 
     fn hint(&self, place: u16, target: u16) -> Option<CrossingsFirst> {
@@ -104,31 +70,32 @@ impl Site for Tape<'_, '_> {
         if places <= place || places <= target {
             return None;
         }
-        if !self.has_tape() {
+        if self.places.is_empty() {
             return Some(CrossingsFirst::new(0, 0));
         }
-        let start = place_read(self.place(place));
-        let end = place_read(self.place(target));
+        let start = self.places[place as usize];
+        let end = self.places[target as usize];
         Some(CrossingsFirst::new(0, start.larger_difference(end) as u64))
     }
 
     fn close(&mut self, segment: u16) -> bool {
-        if self.segments() <= segment {
+        // By index: where `get_mut` gives no lane, nothing that a proof can name says that the lanes are as before.
+        let number = segment as usize;
+        if self.lanes.len() <= number {
             return false;
         }
-        let number = segment as usize;
         self.lanes[number].state = LaneState::Closed;
         true
     }
 
     fn set_cost(&mut self, segment: u16, cost: CrossingsFirst) -> bool {
-        if self.segments() <= segment {
-            return false;
-        }
-        if !is_allowed(floor_read(self.lane(segment)), Length::Finite(cost)) {
-            return false;
-        }
         let entry = segment as usize;
+        if self.lanes.len() <= entry {
+            return false;
+        }
+        if !is_allowed(cost_of(self.lanes[entry].floor), Length::Finite(cost)) {
+            return false;
+        }
         self.lanes[entry].state = LaneState::Open(lane_cost(cost));
         true
     }

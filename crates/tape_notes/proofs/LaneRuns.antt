@@ -1,10 +1,18 @@
 -- The lanes that leave a place, one lane after another. Assumes nothing.
-use Rattle.std.proofs.Common.{◌≡◌, ℕ, zero, suc, ◌+◌, ◌-◌, ◌<◌, ◌≤◌, cond, eqb, List, [], ◌∷◌, ◌++◌, length, take, sym, ap, ◌∙◌, subst, inl, inr, ⊎_elim, arith}
-use Rattle.std.proofs.lemmas.List.{take_more, length-append, length-take-le, append-nil}
+use Rattle.std.proofs.Common.{◌≡◌, ℕ, zero, suc, ◌+◌, ◌-◌, ◌<◌, ◌≤◌, cond, eqb, List, [], ◌∷◌, ◌++◌, length, get_or, take, sym, ap, ◌∙◌, subst, inl, inr, ⊎_elim, arith}
+use Rattle.std.proofs.lemmas.List.{get_or_default, take_more, length-append, length-take-le, append-nil}
 use Rattle.std.proofs.lemmas.Bool.{cases_eq, eq-eqb, ne_eqb, cond-true, cond-false}
 use Rattle.tables.specs.Tapes.{leaving, lane_at, no_lane}
 use Rattle.tape_notes.specs.Noting.{over}
 use Rattle.tables.specs.declared.tape.Lane.{Lane}
+use Rattle.tables.specs.declared.State.TheVariants.{Closed}
+
+-- what the code reads past the end of the lanes; within them the default does not matter
+abbrev pub blank : Lane
+blank = record { from = 0; to = 0; floor = record { crossings = 0; milliseconds = 0 }; state = Closed; entering = 0; slot = 0 }
+
+pub lane_read : (ls : List Lane) (k : ℕ) → k < length ls → get_or ls k blank ≡ lane_at ls k
+lane_read ls k there = get_or_default ls k blank no_lane there
 
 -- what one lane adds
 abbrev pub adds : ℕ → Lane → ℕ → List (ℕ × ℕ)

@@ -9,12 +9,11 @@ const STRAY: u16 = 7;
 
 fn place(x: i32, y: i32) -> Place {
     Place {
-        x,
-        y,
         first: STRAY,
         ways: STRAY,
         entry_first: STRAY,
         entries: STRAY,
+        ..Place::at(x, y)
     }
 }
 
@@ -25,12 +24,9 @@ fn lane(from: u16, to: u16, milliseconds: u32) -> Lane {
         milliseconds,
     };
     Lane {
-        from,
-        to,
-        floor,
-        state: LaneState::Open(floor),
         entering: STRAY,
         slot: STRAY,
+        ..Lane::new(from, to, floor, LaneState::Open(floor))
     }
 }
 

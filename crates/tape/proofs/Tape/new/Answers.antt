@@ -1,23 +1,31 @@
-use Rattle.tape.proofs.Building.{ordered, built_site, no_tape}
+use Rattle.std.proofs.Common.{sym, subst}
+use Rattle.tape.proofs.Building.{Kept, part_ordered, kept_built, kept_none}
 use Rattle.tape.proofs.Tape.new.Goals as goal
+use Rattle.tape.proofs.Tape.new.Goals.{in-Sound, in-Faulty}
 
 pub build-requires : goal.build-requires
-build-requires c =
-    let s = c.in-Sound.ensures in
-    record { long = s.places_there; lanes = ordered c.args.head c.args.places.now c.args.lanes.now s }
+build-requires c = part_ordered c.args.head c.args.places.now c.args.lanes.now c.in-Sound.ensures
 
-pub returns-in-Sound : goal.returns-in-Sound
-returns-in-Sound c =
-    let s = c.in-Sound.ensures in
-    record {
-      sound = λ _. built_site c.args.head c.args.places.now _ c.args.lanes.now _ s c.build.ensures;
-      faulty = λ not. absurd (not s);
-    }
+pub invariant_of-result : goal.invariant_of-result
+invariant_of-result c =
+    let head = c.args.head in
+    let ps = c.args.places.now in
+    let ls = c.args.lanes.now in
+    let kept : Kept head ps ls c.match-verdict.result.0.now c.match-verdict.result.1.0.now =
+    elim c.match-verdict.branch [
+      | in-Sound w ↦ subst (λ r. Kept head ps ls r.0.now r.1.0.now) (sym w.result-is) (kept_built head ps ls w.in-Sound.ensures _ _ w.build.ensures)
+      | in-Faulty w ↦ subst (λ r. Kept head ps ls r.0.now r.1.0.now) (sym w.result-is) (kept_none head ps ls w.in-Faulty.ensures)
+    ] in
+    record { sound = kept.sound; noted = kept.noted }
 
-pub returns-in-Faulty : goal.returns-in-Faulty
-returns-in-Faulty c =
-    let f = c.in-Faulty.ensures in
-    record {
-      sound = λ s. absurd (f s);
-      faulty = λ _. no_tape _ _;
-    }
+pub returns : goal.returns
+returns c =
+    let head = c.args.head in
+    let ps = c.args.places.now in
+    let ls = c.args.lanes.now in
+    let kept : Kept head ps ls c.match-verdict.result.0.now c.match-verdict.result.1.0.now =
+    elim c.match-verdict.branch [
+      | in-Sound w ↦ subst (λ r. Kept head ps ls r.0.now r.1.0.now) (sym w.result-is) (kept_built head ps ls w.in-Sound.ensures _ _ w.build.ensures)
+      | in-Faulty w ↦ subst (λ r. Kept head ps ls r.0.now r.1.0.now) (sym w.result-is) (kept_none head ps ls w.in-Faulty.ensures)
+    ] in
+    kept.over

@@ -1,41 +1,26 @@
-use Rattle.std.proofs.Common.{◌+◌, ◌<◌, ◌≤◌, cond, eqb, sym, ap, ◌∙◌, subst, arith}
-use Rattle.tables.specs.Tapes.{lane_at, SoundLane}
-use Rattle.tables.specs.declared.tape.Lane.{Lane}
-use Rattle.tape.proofs.Checking.{Checked, checked_more, checked_all, not_in_order, too_many}
+use Rattle.std.proofs.Common.{◌<◌, sym, ◌∙◌, subst}
+use Rattle.std.proofs.lemmas.Bool.{true≢false}
+use Rattle.tape.proofs.Checking.{refuted, not_sound, not_in_order, too_many, checked_more}
 use Rattle.tape.proofs.rules.are_lanes_sound.Goals as goal
+use Rattle.tape.proofs.rules.are_lanes_sound.Goals.{then-not-is_lane_sound-via-then-not-is_lane_sound, then-not-is_lane_sound-via-else-not-is_lane_sound+then-lane-run}
 
 pub returns-then-not-is_lane_sound : goal.returns-then-not-is_lane_sound
-returns-then-not-is_lane_sound c s =
-    c.if-not-is_lane_sound.ensures (subst (SoundLane _ _) (sym c.lane_of-lane.ensures) (s.each_sound c.loop-f.f c.loop-f-test.true))
-
-pub returns-then-lane-previous : goal.returns-then-lane-previous
-returns-then-lane-previous c =
-    let h = c.requires.lanes in
-    not_in_order _ _ c.args.lanes.now c.loop-f.f c.loop-f.previous c.loop-f.run c.loop-f.invariant (omega arith) _ c.loop-f-test.true h
-    (subst (λ (l : Lane). l.from < c.loop-f.previous) c.lane_of-lane.ensures c.if-lane-previous.true)
+returns-then-not-is_lane_sound c =
+    let l = c.loop-lane in
+    let ls = c.args.lanes.now in
+    let there = c.loop-lane-test.true in
+    elim c.then-not-is_lane_sound.branch [
+      | then-not-is_lane_sound-via-then-not-is_lane_sound w ↦ refuted (not_sound _ _ ls l.lane-index l.run.from l.run.lanes l.invariant there (λ s. absurd (true≢false (sym (c.is_lane_sound.ensures.1 s) ∙ w.if-not-is_lane_sound.true))))
+      | then-not-is_lane_sound-via-else-not-is_lane_sound+then-lane-run w ↦ refuted (not_in_order _ _ ls l.lane-index l.run.from l.run.lanes l.invariant there w.if-lane-run.true)
+    ]
 
 pub returns-then-run-gt-MOST_LEAVING : goal.returns-then-run-gt-MOST_LEAVING
 returns-then-run-gt-MOST_LEAVING c =
-    let l = c.loop-f in
-    let up : l.previous ≤ (lane_at c.args.lanes.now l.f).from = subst (λ (x : Lane). l.previous ≤ x.from) c.lane_of-lane.ensures c.if-lane-previous.false in
-    let h = c.requires.lanes in
-    too_many _ _ c.args.lanes.now l.f l.previous l.run l.invariant (omega arith) _ c.loop-f-test.true h up
-    (subst (λ (x : Lane). 64 < cond (eqb x.from l.previous) (l.run + 1) 1) c.lane_of-lane.ensures (subst (λ r. 64 < r) c.next_run-run.ensures c.if-run-gt-MOST_LEAVING.true))
+    let l = c.loop-lane in
+    refuted (too_many _ _ c.args.lanes.now l.lane-index l.run.from l.run.lanes l.invariant c.loop-lane-test.true c.if-lane-run.false (subst (λ r. 64 < r) c.after-run.ensures.lanes c.if-run-gt-MOST_LEAVING.true))
 
-pub loop-f-preserved : goal.loop-f-preserved
-loop-f-preserved c =
-    let l = c.loop-f in
-    let e = c.lane_of-lane.ensures in
-    let n = c.args.head.places in
-    let ps = c.args.places.now in
-    let ls = c.args.lanes.now in
-    let h = c.requires.lanes in
-    let few : c.next_run-run.result ≤ 64 = c.if-run-gt-MOST_LEAVING.false in
-    let sound : SoundLane n ps (lane_at ls l.f) = subst (SoundLane n ps) e c.if-not-is_lane_sound.ensures in
-    let up : l.previous ≤ (lane_at ls l.f).from = subst (λ (x : Lane). l.previous ≤ x.from) e c.if-lane-previous.false in
-    let run = c.next_run-run.ensures ∙ ap (λ (x : Lane). cond (eqb x.from l.previous) (l.run + 1) 1) e in
-    subst (λ (x : Lane). Checked n ps ls (l.f + 1) x.from c.next_run-run.result) (sym e)
-    (checked_more n ps ls l.f l.previous l.run l.invariant (omega arith) c.next_run-run.result sound up run few)
-
-pub returns : goal.returns
-returns c = checked_all _ _ _ c.loop-f.f _ _ _ c.loop-f.invariant (let t = c.loop-f-test.false in let k = c.loop-f.auto in omega arith)
+pub loop-lane-preserved : goal.loop-lane-preserved
+loop-lane-preserved c =
+    let l = c.loop-lane in
+    checked_more _ _ c.args.lanes.now l.lane-index l.run.from l.run.lanes l.invariant c.loop-lane-test.true c.after-run.result.from c.after-run.result.lanes
+    (c.is_lane_sound.ensures.0 c.if-not-is_lane_sound.false) c.if-lane-run.false c.after-run.ensures.from c.after-run.ensures.lanes c.if-run-gt-MOST_LEAVING.false

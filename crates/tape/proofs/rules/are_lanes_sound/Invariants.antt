@@ -1,5 +1,6 @@
+use Rattle.std.proofs.Common.{length}
 use Rattle.tape.proofs.Checking.{Checked}
 use Rattle.tape.proofs.rules.are_lanes_sound.Given as goal
 
-abbrev pub invariant-loop-f : goal.invariant-loop-f
-invariant-loop-f l = Checked l.head.places l.places l.lanes l.f l.previous l.run
+abbrev pub invariant-loop-lane : goal.invariant-loop-lane
+invariant-loop-lane l = Checked (length l.places) l.places l.lanes l.lane-index l.run.from l.run.lanes

@@ -1,18 +1,23 @@
-use Rattle.std.proofs.Common.{sym, refl, arith}
+use Rattle.std.proofs.Common.{sym, refl}
 use Rattle.tables.specs.declared.State.TheVariants.{Closed}
-use Rattle.tape.proofs.TapeFacts.{lane_there}
-use Rattle.tape.proofs.Settings.{set_granted, set_after, directory_after}
+use Rattle.tape.proofs.Settings.{set_sound, set_noted, granted, site_after, set_directory}
 use Rattle.tape.proofs.tape_site.TapeSite.close.Goals as goal
 
-pub bounds-self-number : goal.bounds-self-number
-bounds-self-number c = omega (arith, lane_there c.args.self.now c.args.segment _ c.segments.ensures c.if-segments-segment.false)
+pub invariant_of-self : goal.invariant_of-self
+invariant_of-self c =
+    let s = c.args.self.now in
+    let there = c.if-self-number.false in
+    record {
+      sound = set_sound s.places.now s.lanes.now c.args.segment Closed there s.sound refl;
+      noted = set_noted s.places.now s.lanes.now c.args.segment Closed there s.noted;
+    }
 
 pub returns : goal.returns
 returns c =
     let s = c.args.self.now in
-    let f = c.args.segment in
+    let there = c.if-self-number.false in
     record {
-      answer = sym (set_granted s f _ Closed c.segments.ensures c.if-segments-segment.false refl);
-      after = set_after s f _ Closed c.segments.ensures c.if-segments-segment.false refl _;
-      directory = directory_after s f _ Closed c.segments.ensures c.if-segments-segment.false _;
+      answer = sym (granted s.places.now s.lanes.now c.args.segment Closed there s.sound refl);
+      after = site_after s.places.now s.lanes.now c.args.segment Closed there s.sound refl;
+      directory = set_directory s.places.now s.lanes.now c.args.segment Closed there;
     }

@@ -1,9 +1,8 @@
 -- The larger coordinate difference is a distance. Assumes nothing.
-use Rattle.std.proofs.Common.{◌≡◌, ◌+◌, ◌≤◌, true, leb, ℤ, ◌-ℤ◌, nat_abs, refl, arith}
+use Rattle.std.proofs.Common.{◌≡◌, ◌+◌, ◌≤◌, true, leb, ℤ, ◌-ℤ◌, nat_abs, arith}
 use Rattle.std.proofs.lemmas.Int.{ints}
-use Rattle.std.proofs.lemmas.Bool.{and_parts, leb-true, cond_both}
-use Rattle.tables.specs.Tapes.{is_place, larger_difference, no_place}
-use Rattle.tape.specs.TapeReadings.{read_place}
+use Rattle.std.proofs.lemmas.Bool.{and_parts, leb-true}
+use Rattle.tables.specs.Tapes.{is_place, larger_difference}
 use Rattle.tables.specs.declared.tape.Place.{Place}
 
 pub record Ranged (p : Place) : Type 0 where
@@ -36,6 +35,3 @@ larger_difference_small p q a b =
 -- the way round is not shorter
 pub larger_difference_step : (p q r : Place) → larger_difference p r ≤ larger_difference p q + larger_difference q r
 larger_difference_step p q r = omega (arith, difference_step p.x q.x r.x, difference_step p.y q.y r.y)
-
-pub read_is_place : (p : Place) → is_place (read_place p) ≡ true
-read_is_place p = cond_both (is_place p) p no_place (λ q. is_place q ≡ true) (λ e. e) (λ _. refl)

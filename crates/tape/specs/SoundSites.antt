@@ -1,23 +1,41 @@
 -- Sites that sound tables describe keep the rules of sites. Assumes nothing.
-use Rattle.std.proofs.Common.{◌≡◌, ℕ, suc, ◌+◌, ◌<◌, ◌≤◌, true, eqb, List, [], ◌∷◌, length, take, sym, ap, ◌∙◌, subst, ⊎_elim, arith}
+use Rattle.std.proofs.Common.{◌≡◌, ℕ, suc, ◌+◌, ◌<◌, ◌≤◌, true, eqb, List, [], ◌∷◌, length, take, sym, refl, ap, ◌∙◌, subst, ⊎_elim, arith}
 use mathlib.Core.List.Memᴰ
 use mathlib.Core.List.{Memᴰ}
 use Rattle.std.proofs.lemmas.List.{get_or-take, length-take}
-use Rattle.std.proofs.lemmas.Bool.{cases_Bool, cond-true, cond-false, eqb-true, le-leb}
+use Rattle.std.proofs.lemmas.Bool.Decides.{nat_tests}
+use Rattle.std.proofs.lemmas.Bool.{cases_Bool, and_parts, cond-true, cond-false, eqb-true, le-leb}
 use Rattle.cost.specs.CrossingsFirst.{pair, crossings_first}
 use Rattle.cost.specs.declared.crossings_first.CrossingsFirst.{CrossingsFirst}
 use Rattle.cost.specs.declared.lengths.Length.TheVariants.{Finite}
 use Rattle.routes.specs.Sites.{Way, Lawful, allowed}
-use Rattle.tables.specs.Tapes.{is_place, is_lane_cost, larger_difference, leaving, place_at, lane_at, no_place, no_lane, SoundTape}
+use Rattle.tables.specs.Tapes.{is_place, is_lane_cost, is_lane_state, larger_difference, leaving, place_at, lane_at, no_place, no_lane, SoundTape}
 use Rattle.tables.specs.declared.tape.TapeHead.{TapeHead}
 use Rattle.tables.specs.declared.tape.Place.{Place}
 use Rattle.tables.specs.declared.tape.Lane.{Lane}
+use Rattle.tables.specs.declared.tape.LaneCost.{LaneCost}
+use Rattle.tables.specs.States.{LaneState}
+use Rattle.tables.specs.declared.State.TheVariants.{Closed, Open}
 use Rattle.tape.specs.TapeSites.{cost_of, length_of, tape_site}
-use Rattle.tape.proofs.Distances.{larger_difference_self, larger_difference_small, larger_difference_step}
-use Rattle.tape.proofs.TapeLaws.{state_allowed, allowed_segment, allowed_floor, hint_le}
+use Rattle.tape.specs.Distances.{larger_difference_self, larger_difference_small, larger_difference_step}
+
+-- a state that keeps the rules of lanes is allowed
+pub state_allowed : (floor : LaneCost) (x : LaneState) → is_lane_state floor x ≡ true → allowed crossings_first (cost_of floor) (length_of x) ≡ true
+state_allowed floor Closed ok = refl
+state_allowed floor (Open c) ok = ok
+
+-- what an allowed state keeps
+allowed_segment : (floor c : CrossingsFirst) → allowed crossings_first floor (Finite c) ≡ true → crossings_first.segment c ≡ true
+allowed_segment floor c ok = (and_parts (crossings_first.segment c) (crossings_first.le floor c) ok).0
+
+allowed_floor : (floor c : CrossingsFirst) → allowed crossings_first floor (Finite c) ≡ true → crossings_first.le floor c ≡ true
+allowed_floor floor c ok = (and_parts (crossings_first.segment c) (crossings_first.le floor c) ok).1
+
+hint_le : (c : CrossingsFirst) (a b : ℕ) → a ≤ c.time.count + b → crossings_first.le (pair 0 a) (crossings_first.add c (pair 0 b)) ≡ true
+hint_le c a b h = grind (arith, nat_tests)
 
 -- (u, f) is one of the lanes that leave p, the first of which has the number k
-record Leaves (p u f k : ℕ) (xs : List Lane) : Type 0 where
+pub record Leaves (p u f k : ℕ) (xs : List Lane) : Type 0 where
   pub index : ℕ
   pub inside : index < length xs
   pub numbered : f ≡ k + index
@@ -27,7 +45,7 @@ record Leaves (p u f k : ℕ) (xs : List Lane) : Type 0 where
 later : (p u f k : ℕ) (x : Lane) (xs : List Lane) → Leaves p u f (k + 1) xs → Leaves p u f k (x ∷ xs)
 later p u f k x xs l = record { index = suc l.index; inside = omega arith; numbered = omega arith; leaves = l.leaves; ends = l.ends }
 
-leaving_lane : (p u f k : ℕ) (xs : List Lane) → Memᴰ (u, f) (leaving p k xs) → Leaves p u f k xs
+pub leaving_lane : (p u f k : ℕ) (xs : List Lane) → Memᴰ (u, f) (leaving p k xs) → Leaves p u f k xs
 leaving_lane p u f k [] h = absurd (Memᴰ.not-nil h)
 leaving_lane p u f k (x ∷ xs) h =
     ⊎_elim
