@@ -1,9 +1,8 @@
 -- Tables that were looked through and noted are the site that the head describes. Assumes nothing.
-use Rattle.std.proofs.Common.{◌≡◌, ℕ, ◌<◌, max, true, nat_lt, List, [], map, length, take, sym, ap, ◌∙◌, arith}
+use Rattle.std.proofs.Common.{◌≡◌, ℕ, ◌<◌, max, nat_lt, List, [], map, length, take, sym, ap, refl, ◌∙◌, arith}
 use mathlib.Core.Path.{fun_ext}
 use Rattle.std.proofs.Math.Seq.{take-length}
 use Rattle.std.specs.List.{range_with_len}
-use Rattle.std.proofs.lemmas.Bool.{lt-ltb}
 use Rattle.cost.specs.CrossingsFirst.{pair}
 use Rattle.tables.specs.Tapes.{is_lane_state, leaving, place_at, lane_at, SoundTape}
 use Rattle.tables.specs.declared.tape.TapeHead.{TapeHead}
@@ -13,9 +12,8 @@ use Rattle.tape_notes.specs.Noting.{into, below, Ordered, Built}
 use Rattle.tape_notes.proofs.Entries.{entries_few, into_all}
 use Rattle.tape.specs.TapeSites.{cost_of, length_of, tape_site, SiteOver}
 use Rattle.tape.specs.TapeTables.{SoundTables, NotedTables, tables_site}
-use Rattle.tape.specs.TapeLaws.{no_tables}
 use Rattle.tape.proofs.Sameness.{SameCourse, same_leaving, same_sound, same_difference}
-use Rattle.tape.proofs.Parts.{places_counted, lanes_counted, part_sound}
+use Rattle.tape.proofs.Parts.{part_sound, described}
 
 ordered : (ps : List Place) (ls : List Lane) → SoundTables ps ls → Ordered (length ps) ls
 ordered ps ls s = record {
@@ -61,6 +59,17 @@ module _ (ps vs : List Place) (ls xs : List Lane) (s : SoundTables ps ls) (b : B
         };
   }
 
+  built_site : tables_site vs xs ≡ tables_site ps ls
+  built_site = λ i. record {
+    places = max (b.places_long i) 1;
+    segments = b.lanes_long i;
+    ways = fun_ext (λ p. same_leaving p 0 ls xs b.lanes_long course) i;
+    floor = λ f. cost_of ((b.lanes_kept f).floor_same i);
+    state = λ f. length_of ((b.lanes_kept f).state_same i);
+    settable = λ _. nat_lt 0 (b.places_long i);
+    hint = λ p q. pair 0 (same_difference _ _ _ _ (b.coordinates_kept p) (b.coordinates_kept q) i);
+  }
+
 -- what is known of the tables that a tape keeps
 pub record Kept (head : TapeHead) (ps : List Place) (ls : List Lane) (vs : List Place) (xs : List Lane) : Type 0 where
   pub sound : SoundTables vs xs
@@ -76,23 +85,8 @@ module _ (head : TapeHead) (ps : List Place) (ls : List Lane) where
     part_ordered = ordered _ _ part
 
     module _ (vs : List Place) (xs : List Lane) (b : Built (take head.places ps) vs (take head.lanes ls) xs) where
-      places : length vs ≡ head.places
-      places = b.places_long ∙ places_counted head ps ls s.places_there s.lanes_there
-
       same_site : tables_site vs xs ≡ tape_site head ps ls
-      same_site =
-          let count : max (length vs) 1 ≡ head.places = omega (arith, places, s.some_place) in
-          let some : nat_lt 0 (length vs) ≡ true = lt-ltb 0 (length vs) (omega (arith, places, s.some_place)) in
-          let same = course (take head.places ps) vs (take head.lanes ls) xs part b in
-          λ i. record {
-            places = count i;
-            segments = (b.lanes_long ∙ lanes_counted head ps ls s.places_there s.lanes_there) i;
-            ways = fun_ext (λ p. same_leaving p 0 (take head.lanes ls) xs b.lanes_long same) i;
-            floor = λ f. cost_of ((b.lanes_kept f).floor_same i);
-            state = λ f. length_of ((b.lanes_kept f).state_same i);
-            settable = λ _. some i;
-            hint = λ p q. pair 0 (same_difference _ _ _ _ (b.coordinates_kept p) (b.coordinates_kept q) i);
-          }
+      same_site = built_site _ _ _ _ part b ∙ sym (described head ps ls s.places_there s.lanes_there s.some_place)
 
       pub kept_built : Kept head ps ls vs xs
       kept_built = record { sound = built_sound _ _ _ _ part b; noted = built_noted _ _ _ _ part b; over = record { sound = λ _. same_site; faulty = λ none. absurd (none s) } }
@@ -106,5 +100,5 @@ module _ (head : TapeHead) (ps : List Place) (ls : List Lane) where
       lanes_sound = record { each_sound = λ f h. absurd (omega arith); in_order = λ f h. absurd (omega arith); few_leave = λ p. omega arith };
     };
     noted = record { each_place = λ p h. absurd (omega arith); each_lane = λ f h. absurd (omega arith) };
-    over = record { sound = λ s. absurd (none s); faulty = λ _. sym no_tables };
+    over = record { sound = λ s. absurd (none s); faulty = λ _. refl };
   }

@@ -1,5 +1,5 @@
 -- The check of the lanes, one after another. Assumes nothing.
-use Rattle.std.proofs.Common.{◌≡◌, ℕ, ◌+◌, ◌-◌, ◌<◌, ◌≤◌, false, cond, eqb, List, length, get_or, take, ◌↔◌, IsTrue, sym, refl, ap, ◌∙◌, subst, ⊎_elim, arith}
+use Rattle.std.proofs.Common.{◌≡◌, ℕ, ◌+◌, ◌-◌, ◌<◌, ◌≤◌, false, cond, eqb, List, length, get_or, take, ◌↔◌, IsTrue, sym, ap, ◌∙◌, subst, ⊎_elim, arith}
 use Rattle.std.proofs.lemmas.Bool.{cases_eq, eq-eqb, ne_eqb, cond-true, cond-false, true≢false}
 use Rattle.tables.specs.Tapes.{leaving, lane_at, SoundLane, SoundLanes}
 use Rattle.tables.specs.declared.tape.Place.{Place}
@@ -15,17 +15,6 @@ pub record Checked (n : ℕ) (ps : List Place) (ls : List Lane) (k previous run 
   pub run_is : run ≡ length (leaving previous 0 (take k ls))
   pub beyond : (p : ℕ) → previous < p → length (leaving p 0 (take k ls)) ≡ 0
   pub few_leave : (p : ℕ) → length (leaving p 0 (take k ls)) ≤ 64
-
-pub checked_none : (n : ℕ) (ps : List Place) (ls : List Lane) → Checked n ps ls 0 0 0
-checked_none n ps ls = record {
-  each_sound = λ f h. absurd (omega arith);
-  in_order = λ f h. absurd (omega arith);
-  at_start = λ _. refl;
-  last = λ f h. absurd (omega arith);
-  run_is = refl;
-  beyond = λ p h. refl;
-  few_leave = λ p. omega arith;
-}
 
 -- a test that failed tells that what it asks is not so
 pub refuted : {P : Type 0} → (P → ⊥) → IsTrue false ↔ P

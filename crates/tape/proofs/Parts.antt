@@ -1,14 +1,18 @@
 -- A head and its tables keep the rules exactly where the entries that it counts do. Assumes nothing.
-use Rattle.std.proofs.Common.{◌≡◌, ℕ, ◌+◌, ◌<◌, ◌≤◌, true, List, length, take, sym, ap, ◌∙◌, subst, arith}
+use Rattle.std.proofs.Common.{◌≡◌, ℕ, ◌+◌, ◌<◌, ◌≤◌, max, true, nat_lt, List, length, take, sym, ap, ◌∙◌, subst, arith}
 use Rattle.std.proofs.Math.Seq.{take-length}
 use Rattle.std.proofs.lemmas.List.{get_or-take, length-take-le}
+use Rattle.std.proofs.lemmas.Bool.{lt-ltb}
 use Rattle.std.proofs.lemmas.Bool.Decides.{nat_tests}
 use Rattle.tables.specs.Tapes.{is_place, larger_difference, leaving, place_at, lane_at, no_place, no_lane, SoundPlaces, SoundLane, SoundLanes, SoundTape}
 use Rattle.tables.specs.declared.tape.TapeHead.{TapeHead}
 use Rattle.tables.specs.declared.tape.Place.{Place}
 use Rattle.tables.specs.declared.tape.Lane.{Lane}
-use Rattle.tape.specs.TapeSites.{fitting}
-use Rattle.tape.specs.TapeTables.{SoundTables}
+use Rattle.cost.specs.CrossingsFirst.{pair, crossings_first}
+use Rattle.routes.specs.Sites.{Lawful}
+use Rattle.tape.specs.TapeSites.{cost_of, length_of, tape_site, fitting, SoundTapesAreLawful}
+use Rattle.tape.specs.TapeTables.{SoundTables, tables_site}
+use Rattle.tape.specs.TapeLaws.{tables_lawful}
 
 module _ (head : TapeHead) (ps : List Place) (ls : List Lane) (places : head.places ≤ length ps) (lanes : head.lanes ≤ length ls) where
   abbrev n : ℕ
@@ -85,6 +89,27 @@ module _ (head : TapeHead) (ps : List Place) (ls : List Lane) (places : head.pla
       few_leave = λ p. subst (λ xs. length (leaving p 0 xs) ≤ 64) (sym (take-length L)) (s.lanes_sound.few_leave p);
     };
   }
+
+  -- the site that the head describes is that of those entries
+  pub described : 1 ≤ n → tape_site head ps ls ≡ tables_site P L
+  described some =
+      let count : n ≡ max (length P) 1 = omega (arith, places_counted) in
+      let one : true ≡ nat_lt 0 (length P) = sym (lt-ltb 0 (length P) (omega (arith, places_counted))) in
+      λ i. record {
+        places = count i;
+        segments = sym lanes_counted i;
+        ways = λ p. leaving p 0 L;
+        floor = λ f. cost_of (lane_at L f).floor;
+        state = λ f. length_of (lane_at L f).state;
+        settable = λ _. one i;
+        hint = λ s t. pair 0 (larger_difference (place_at P s) (place_at P t));
+      }
+
+pub sound_lawful : SoundTapesAreLawful
+sound_lawful head ps ls s =
+    let P = take head.places ps in
+    let L = take head.lanes ls in
+    subst (Lawful crossings_first) (sym (described head ps ls s.places_there s.lanes_there s.some_place)) (tables_lawful P L (part_sound head ps ls s.places_there s.lanes_there s))
 
 -- what the test on the counts tells
 pub record Fits (head : TapeHead) (places lanes : ℕ) : Type 0 where

@@ -1,5 +1,5 @@
 -- Lists made by counting. Assumes nothing.
-use Rattle.std.proofs.Common.{◌≡◌, ℕ, zero, suc, ◌+◌, ◌<◌, ◌≤◌, ◌∷◌, map, Some, None, refl, ap, ◌∙◌, subst, ⊎_elim, arith}
+use Rattle.std.proofs.Common.{◌≡◌, ℕ, zero, suc, ◌+◌, ◌<◌, ◌≤◌, map, Some, None, refl, ap, ◌∙◌, ⊎_elim, arith}
 use mathlib.Core.List.Memᴰ
 use mathlib.Core.List.{Memᴰ}
 use Rattle.std.specs.List.{slice_get, range_with_len}
@@ -27,12 +27,3 @@ module _ {X : Type 0} (f : ℕ → X) where
   counted_member a zero i h = absurd (omega arith)
   counted_member a (suc c) zero h = Memᴰ.head (ap f (let z : a + 0 ≡ a = omega arith in z))
   counted_member a (suc c) (suc i) h = Memᴰ.tail (Memᴰ.cast (ap f (let z : a + suc i ≡ (a + 1) + i = omega arith in z)) (counted_member (a + 1) c i (omega arith)))
-
-  -- two of them are equal where their elements are
-  pub counted_same : (g : ℕ → X) (a c : ℕ) → ((i : ℕ) → i < c → f (a + i) ≡ g (a + i)) → map f (range_with_len a c) ≡ map g (range_with_len a c)
-  counted_same g a zero same = refl
-  counted_same g a (suc c) same =
-      let e : a + 0 ≡ a = omega arith in
-      let here : f a ≡ g a = subst (λ j. f j ≡ g j) e (same 0 (omega arith)) in
-      let rest = counted_same g (a + 1) c (λ i h. let z : a + (i + 1) ≡ (a + 1) + i = omega arith in subst (λ j. f j ≡ g j) z (same (i + 1) (omega arith))) in
-      λ i. here i ∷ rest i

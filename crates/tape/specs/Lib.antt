@@ -3,5 +3,5 @@ pub mod TapeTables
 pub mod TapeMeaning
 pub mod Counting
 pub mod Distances
-pub mod SoundSites
+pub mod Leaving
 pub mod TapeLaws

@@ -15,12 +15,11 @@ pub mod tape_site;
 
 pub use rules::verdict;
 
-// The entries of the tables that count. A tape that stands on faulty tables has none, and is then one place with no segment. The two
-// tables are lent apart, so that each has a lifetime of its own.
+// The entries of the tables that count. A tape that stands on faulty tables has none, and is then one place with no segment.
 #[derive(Drop)]
-pub struct Tape<'p, 'l> {
-    places: &'p mut [Place],
-    lanes: &'l mut [Lane],
+pub struct Tape<'a> {
+    places: &'a mut [Place],
+    lanes: &'a mut [Lane],
     ghost sound: { SoundTables places.now lanes.now },
     ghost noted: { NotedTables places.now lanes.now },
 }

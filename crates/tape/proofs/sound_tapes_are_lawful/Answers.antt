@@ -1,4 +1,4 @@
-use Rattle.tape.specs.SoundSites.{sound_lawful}
+use Rattle.tape.proofs.Parts.{sound_lawful}
 use Rattle.tape.proofs.sound_tapes_are_lawful.Goals as goal
 
 pub returns : goal.returns
