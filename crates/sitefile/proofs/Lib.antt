@@ -2,8 +2,8 @@ pub mod Cells
 pub mod FloorFiles
 pub mod Fields
 pub mod Forms
-pub mod Lanes
-pub mod Offsets
+pub mod TapeRecords
+pub mod PlaceIndexes
 pub mod Rules
 pub mod Runs
 pub mod SiteFiles

@@ -1,13 +1,14 @@
 -- The rules of lanes, one lane after another. Assumes nothing.
-use Rattle.std.proofs.Common.{◌≡◌, ℕ, ◌+◌, ◌<◌, ◌≤◌, true, false, eqb, List, [], ◌∷◌, ◌++◌, length, sym, refl, ap, ◌∙◌, ⊎_elim, arith}
+use Rattle.std.proofs.Common.{◌≡◌, ℕ, ◌+◌, ◌<◌, ◌≤◌, true, false, eqb, List, [], ◌∷◌, ◌++◌, length, Option, None, Some, MatchOption, Ok, sym, refl, ap, ◌∙◌, ⊎_elim, arith}
 use Rattle.std.proofs.lemmas.Bool.{cases_eq, eq-eqb, ne_eqb, cond-true, cond-false, lt-leb, le-leb, lt-ltb, le-ltb, leb-true, ltb-true, and_from, and_left, and_right, and_parts}
 use Rattle.tables.specs.declared.tape.Place.{Place}
 use Rattle.tables.specs.declared.tape.Lane.{Lane}
 use Rattle.tables.specs.Tapes.{most_leaving, larger_difference, place_at, leaving, is_state_not_under}
-use Rattle.sitefile.specs.declared.tape.LaneRun.{LaneRun}
+use Rattle.sitefile.specs.declared.lane_run.LaneRun.{LaneRun}
 use Rattle.sitefile.specs.declared.reader.Reader.{Reader}
-use Rattle.sitefile.specs.Readers.{ahead, size}
-use Rattle.sitefile.specs.Tapes.{encode_lane, is_lane_ranged, lanes, last_from, keeps_rules, RunOf, LanesWalked}
+use Rattle.sitefile.specs.Records.{Reads}
+use Rattle.sitefile.specs.Tapes.{lane_numbers, lanes, last_from, keeps_rules}
+use Rattle.sitefile.specs.TapeParts.{LastRun, RunOf, NextRun, LanesWalked}
 use Rattle.sitefile.proofs.Runs.{stands, walked_more}
 
 -- the last of some lanes and one more
@@ -49,29 +50,23 @@ leaving_other p k (x ∷ ls) l e = ⊎_elim
 
 -- The run of lanes
 
-module _ {ps : List Place} {before : List Lane} {run : LaneRun} (r : RunOf ps before run) (l : Lane) where
-  -- a lane more from the same place
-  pub run_longer : (next : LaneRun) → l.from ≡ run.from → 1 ≤ run.count → next.from ≡ run.from → next.place ≡ run.place → next.count ≡ run.count + 1 → RunOf ps (before ++ l ∷ []) next
-  run_longer next same some from place count = record {
-    last = from ∙ sym same ∙ sym (last_push before l);
-    counted = count ∙ ap (λ n. n + 1) r.counted ∙ sym (leaving_same run.from 0 before l same) ∙ ap (λ p. length (leaving p 0 (before ++ l ∷ []))) (sym from);
-    located = λ _. place ∙ r.located some ∙ ap (place_at ps) (sym from);
-    sorted = λ p above. leaving_other p 0 before l (λ e. omega arith) ∙ r.sorted p (omega arith);
-  }
+-- a lane more from the same place
+pub run_longer : {ps : List Place} {before : List Lane} {run : LaneRun} (r : LastRun ps before run) (l : Lane) (next : LaneRun) → l.from ≡ run.from → next.from ≡ run.from → next.place ≡ run.place → next.count ≡ run.count + 1 → LastRun ps (before ++ l ∷ []) next
+run_longer {ps} {before} {run} r l next same from place count = record {
+  last = from ∙ sym same ∙ sym (last_push before l);
+  counted = count ∙ ap (λ n. n + 1) r.counted ∙ sym (leaving_same run.from 0 before l same) ∙ ap (λ p. length (leaving p 0 (before ++ l ∷ []))) (sym from);
+  located = place ∙ r.located ∙ ap (place_at ps) (sym from);
+  sorted = λ p above. leaving_other p 0 before l (λ e. omega arith) ∙ r.sorted p (omega arith);
+}
 
-  -- a lane more from a place where none left before
-  pub run_begins : (next : LaneRun) → run.from ≤ l.from → (l.from ≡ run.from → run.count ≡ 0) → next.from ≡ l.from → next.place ≡ place_at ps l.from → next.count ≡ 1 → RunOf ps (before ++ l ∷ []) next
-  run_begins next up fresh from place count =
-      let none : length (leaving l.from 0 before) ≡ 0 = ⊎_elim
-      (λ (e : l.from ≡ run.from). ap (λ p. length (leaving p 0 before)) e ∙ sym r.counted ∙ fresh e)
-      (λ (e : l.from ≡ run.from → ⊥). r.sorted l.from (omega arith))
-      (cases_eq l.from run.from) in
-      record {
-        last = from ∙ sym (last_push before l);
-        counted = count ∙ sym (leaving_same l.from 0 before l refl ∙ ap (λ n. n + 1) none) ∙ ap (λ p. length (leaving p 0 (before ++ l ∷ []))) (sym from);
-        located = λ _. place ∙ ap (place_at ps) (sym from);
-        sorted = λ p above. leaving_other p 0 before l (λ e. omega arith) ∙ r.sorted p (omega arith);
-      }
+-- a lane that no lane before leaves the same place as, and none a later one
+pub run_begins : {ps : List Place} (before : List Lane) (l : Lane) (next : LaneRun) → ((p : ℕ) → l.from ≤ p → length (leaving p 0 before) ≡ 0) → next.from ≡ l.from → next.place ≡ place_at ps l.from → next.count ≡ 1 → LastRun ps (before ++ l ∷ []) next
+run_begins {ps} before l next fresh from place count = record {
+  last = from ∙ sym (last_push before l);
+  counted = count ∙ sym (leaving_same l.from 0 before l refl ∙ ap (λ n. n + 1) (fresh l.from (omega arith))) ∙ ap (λ p. length (leaving p 0 (before ++ l ∷ []))) (sym from);
+  located = place ∙ ap (place_at ps) (sym from);
+  sorted = λ p above. leaving_other p 0 before l (λ e. omega arith) ∙ fresh p (omega arith);
+}
 
 -- The rules
 
@@ -91,21 +86,46 @@ module _ (ps : List Place) (before : List Lane) (l : Lane) where
   pub all_kept : last_from before ≤ l.from → length (leaving l.from 0 before) < most_leaving → larger_difference (place_at ps l.from) (place_at ps l.to) ≤ l.floor.milliseconds → is_state_not_under l.floor l.state ≡ true → keeps_rules ps before l ≡ true
   all_kept a b c d = and_from _ _ (and_from _ _ (and_from _ _ (le-leb (last_from before) l.from a) (lt-ltb (length (leaving l.from 0 before)) most_leaving b)) (le-leb (larger_difference (place_at ps l.from) (place_at ps l.to)) l.floor.milliseconds c)) d
 
--- how many left the lane's place before it
-pub before_count : {ps : List Place} (before : List Lane) {run : LaneRun} (l : Lane) → RunOf ps (before ++ l ∷ []) run → (run.from ≡ l.from) × (run.count ≡ length (leaving l.from 0 before) + 1)
-before_count before {run = run} l r =
-    let from = r.last ∙ last_push before l in
-    (from, r.counted ∙ ap (λ p. length (leaving p 0 (before ++ l ∷ []))) from ∙ leaving_same l.from 0 before l refl)
+-- The next run
+
+-- a lane from the last one's place
+pub goes_on : {ps : List Place} {before : List Lane} {run : LaneRun} → LastRun ps before run → (l : Lane) (next : Option LaneRun) → l.from ≡ run.from → MatchOption next (run.count ≡ 64) (λ n. (n.from ≡ run.from) × (n.place ≡ run.place) × (n.count ≡ run.count + 1)) → MatchOption next (keeps_rules ps before l ≡ false) (NextRun ps before l)
+goes_on {ps} {before} r l None same full =
+    let counted = r.counted ∙ ap (λ p. length (leaving p 0 before)) (sym same) in
+    too_many ps before l (omega arith)
+goes_on {ps} {before} r l (Some n) same more =
+    let last = r.last in
+    let counted = r.counted ∙ ap (λ p. length (leaving p 0 before)) (sym same) in
+    let few = n.few in
+    record { in_order = omega arith; few_before = omega (arith, more.2); last_run = run_longer r l n same more.0 more.1 more.2 }
+
+-- a lane from another place
+pub begins : {ps : List Place} {before : List Lane} (run : Option LaneRun) (l : Lane) (next : LaneRun) → RunOf ps before run → ((r : LaneRun) → run ≡ Some r → r.from < l.from) → next.from ≡ l.from → next.place ≡ place_at ps l.from → next.count ≡ 1 → NextRun ps before l next
+begins {before = before} None l next r later from place count =
+    let last = ap last_from r in
+    let fresh : (p : ℕ) → l.from ≤ p → length (leaving p 0 before) ≡ 0 = λ p h. ap (λ b. length (leaving p 0 b)) r in
+    record { in_order = omega arith; few_before = omega (arith, fresh l.from (omega arith)); last_run = run_begins before l next fresh from place count }
+begins {before = before} (Some q) l next r later from place count =
+    let last = r.last in
+    let above = later q refl in
+    let fresh : (p : ℕ) → l.from ≤ p → length (leaving p 0 before) ≡ 0 = λ p h. r.sorted p (omega arith) in
+    record { in_order = omega arith; few_before = omega (arith, fresh l.from (omega arith)); last_run = run_begins before l next fresh from place count }
+
+-- where the lane begins
+pub next_place : {ps : List Place} {before : List Lane} {l : Lane} {next : LaneRun} → NextRun ps before l next → next.place ≡ place_at ps l.from
+next_place {ps} {before} {l} n = n.last_run.located ∙ ap (place_at ps) (n.last_run.last ∙ last_push before l)
 
 -- One lane after another
 
-pub lanes_none : (count : ℕ) (ps : List Place) (r : Reader) {run : LaneRun} → RunOf ps [] run → LanesWalked count ps 0 r r run
+pub lanes_none : (count : ℕ) (ps : List Place) (r : Reader) → LanesWalked count ps 0 r r None
 unfolding stands
-lanes_none count ps r run = record { walk = stands (lanes count ps) r; run_of = run }
+lanes_none count ps r = record { walk = stands (lanes count ps) r; run_of = refl }
 
-pub lanes_more : {count done : ℕ} {ps : List Place} {from mid : Reader} (to : Reader) {run next : LaneRun} (l : Lane) (w : LanesWalked count ps done from mid run) → is_lane_ranged count l ≡ true → keeps_rules ps w.walk.values l ≡ true → ahead mid ≡ encode_lane l (ahead to) → size to ≡ size mid → RunOf ps (w.walk.values ++ l ∷ []) next → LanesWalked count ps (done + 1) from to next
+pub lanes_more : {count done : ℕ} {ps : List Place} {from mid to : Reader} {run : Option LaneRun} {next : LaneRun} {l : Lane} (w : LanesWalked count ps done from mid run) → Reads (lane_numbers count) mid to (Ok l) → keeps_rules ps w.walk.values l ≡ true → LastRun ps (w.walk.values ++ l ∷ []) next → LanesWalked count ps (done + 1) from to (Some next)
 unfolding walked_more
-lanes_more {count} {ps = ps} to l w ok rules form same run = record { walk = walked_more (lanes count ps) {to = to} {x = l} w.walk (and_from _ _ ok rules) form same; run_of = run }
+lanes_more {count} {ps = ps} {to = to} {l = l} w r rules run =
+    let read = r.read w.walk.values in
+    record { walk = walked_more (lanes count ps) {to = to} {x = l} w.walk (and_from _ _ read.0 rules) read.1 r.same_size; run_of = run }
 
 -- the rules of a lane, one by one
 pub record Kept (ps : List Place) (before : List Lane) (l : Lane) : Type 0 where

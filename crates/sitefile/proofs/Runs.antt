@@ -6,7 +6,7 @@ use Rattle.sitefile.specs.declared.reader.Reader.{Reader}
 use Rattle.sitefile.specs.Readers.{ahead, size}
 use Rattle.sitefile.specs.Faults.{out_of_range}
 use Rattle.sitefile.specs.Formats.{Format, ended, check, FirstFault, failed}
-use Rattle.sitefile.specs.Records.{Records, encode_all, AllAllowed, many, ReadAll, ReadsOne, Walked, Filled, FaultAmong}
+use Rattle.sitefile.specs.Records.{Records, encode_all, AllAllowed, many, ReadAll, Reads, Walked, StopsAmong}
 use Rattle.sitefile.proofs.Fields.{fault_at, fault_same, Holds, Carries, carries_fault, carries_holding}
 
 -- What a kind of records owes: an allowed value's bytes are what the format expects, and no other's.
@@ -15,6 +15,15 @@ pub record RecordLaws {X : Type 0} (R : Records X) : Type 1 where
   pub same : (before : List X) (x y : X) (r s : List ℕ) → R.allowed before x ≡ true → R.allowed before y ≡ true → R.encode x r ≡ R.encode y s → (x ≡ y) × (r ≡ s)
 
 module _ {X : Type 0} (R : Records X) where
+  -- f is a fault of one of the first `count` records, the same whatever follows them
+  abbrev pub FaultAmong : ℕ → Reader → Fault → Type 0
+  FaultAmong count from f = (next : List X → Format) → FirstFault (size from) (many R count [] next) (ahead from) f
+
+  -- a walk over `count` records, which are also as many of the table's first entries
+  pub record Filled (count : ℕ) (from to : Reader) (table table' : List X) : Type 0 where
+    pub walk : Walked R count from to
+    pub filled : table' ≡ walk.values ++ drop count table
+
   pub encode_push : (xs : List X) (x : X) (rest : List ℕ) → encode_all R xs (R.encode x rest) ≡ encode_all R (xs ++ x ∷ []) rest
   encode_push [] x rest = refl
   encode_push (y ∷ xs) x rest = ap (R.encode y) (encode_push xs x rest)
@@ -38,6 +47,15 @@ module _ {X : Type 0} (R : Records X) where
     same_size = same ∙ w.same_size;
   }
 
+  -- a walk that a fault ends
+  pub stops : {i count : ℕ} {from mid to : Reader} {f : Fault} (w : Walked R i from mid) → i < count → Reads R mid to (Err f) → StopsAmong R count from f
+  stops {i} {mid = mid} w few r = record { done = i; few = few; mid = mid; walk = w; fault = r.read w.values }
+
+  -- a record more
+  unfoldable pub one_more : {i : ℕ} {from mid to : Reader} {x : X} → Walked R i from mid → Reads R mid to (Ok x) → Walked R (i + 1) from to
+  unfolding walked_more
+  one_more w r = walked_more w (r.read w.values).0 (r.read w.values).1 r.same_size
+
   -- the table that a loop fills
 
   set_next : (xs table : List X) (x : X) (i : ℕ) → length xs ≡ i → i < length table → set (xs ++ drop i table) i x ≡ (xs ++ x ∷ []) ++ drop (i + 1) table
@@ -46,18 +64,18 @@ module _ {X : Type 0} (R : Records X) where
       ∙ set_at xs (get_or table i x) (drop (i + 1) table) x i long
       ∙ sym (append_assoc xs (x ∷ []) (drop (i + 1) table))
 
-  pub filled_none : (r : Reader) (table : List X) → Filled R 0 r r table table
+  pub filled_none : (r : Reader) (table : List X) → Filled 0 r r table table
   unfolding stands
   filled_none r table = record { walk = stands r; filled = refl }
 
-  pub filled_more : {i : ℕ} {from mid to : Reader} {table table' : List X} {x : X} (f : Filled R i from mid table table') → i < length table → R.allowed f.walk.values x ≡ true → ahead mid ≡ R.encode x (ahead to) → size to ≡ size mid → Filled R (i + 1) from to table (set table' i x)
-  unfolding walked_more
-  filled_more {i} {table = table} {x = x} f few ok form same = record {
-    walk = walked_more f.walk ok form same;
+  pub filled_more : {i : ℕ} {from mid to : Reader} {table table' : List X} {x : X} (f : Filled i from mid table table') → i < length table → Reads R mid to (Ok x) → Filled (i + 1) from to table (set table' i x)
+  unfolding one_more
+  filled_more {i} {table = table} {x = x} f few r = record {
+    walk = one_more f.walk r;
     filled = ap (λ t. set t i x) f.filled ∙ set_next f.walk.values table x i f.walk.counted few;
   }
 
-  pub filled_all : {i : ℕ} {from to : Reader} {table table' : List X} → Filled R i from to table table' → length table ≤ i → ReadAll R (ahead from) table' (ahead to)
+  pub filled_all : {i : ℕ} {from to : Reader} {table table' : List X} → Filled i from to table table' → length table ≤ i → ReadAll R (ahead from) table' (ahead to)
   filled_all {i} {from} {to} {table} f all =
       let whole = f.filled ∙ ap (λ l. f.walk.values ++ l) (drop_all i table all) ∙ append-nil f.walk.values in
       subst (λ xs. ReadAll R (ahead from) xs (ahead to)) (sym whole) f.walk.read
@@ -98,10 +116,12 @@ module _ {X : Type 0} (R : Records X) where
         subst (λ l. FirstFault (size from) (many R count [] next) l f) (sym w.read.form)
         (carry_all (size from) (λ format bytes. FirstFault (size from) format bytes f) (carries_fault (size from) f) [] w.values count next (ahead to) w.counted w.read.all_allowed (fault_at w.same_size x))
 
-    pub at_record : {i count : ℕ} {from mid : Reader} {f : Fault} (w : Walked R i from mid) → i < count → ((then : X → Format) → FirstFault (size mid) (R.format w.values then) (ahead mid) f) → FaultAmong R count from f
-    at_record {count = count} {from = from} {mid = mid} {f = f} w few x next =
+    pub fault_among : {count : ℕ} {from : Reader} {f : Fault} → StopsAmong R count from f → FaultAmong count from f
+    fault_among {count} {from} {f} s next =
+        let w = s.walk in
+        let few = s.few in
         subst (λ l. FirstFault (size from) (many R count [] next) l f) (sym w.read.form)
-        (at_one (size from) [] w.values count next (ahead mid) f (omega (arith, w.counted)) w.read.all_allowed (λ then. fault_at w.same_size (x then)))
+        (at_one (size from) [] w.values count next (ahead s.mid) f (omega (arith, w.counted)) w.read.all_allowed (λ then. fault_at w.same_size (s.fault then)))
 
     pub records_hold : (size : ℕ) (xs : List X) (count : ℕ) (next : List X → Format) (rest : List ℕ) → length xs ≡ count → AllAllowed R [] xs → Holds size (next xs) rest → Holds size (many R count [] next) (encode_all R xs rest)
     records_hold size xs count next rest long all h = carry_all size (Holds size) (carries_holding size) [] xs count next rest long all h
@@ -110,9 +130,9 @@ module _ {X : Type 0} (R : Records X) where
     records_same xs ys r s long a b e = same_from [] xs ys r s long a b e
 
     -- What one walk found has no fault in the next: a fault whatever follows would be told of two bytes.
-    pub no_second_fault : (again : ℕ) {count : ℕ} {from to : Reader} {f : Fault} → again ≡ count → Walked R count from to → FaultAmong R again from f → ⊥
+    pub no_second_fault : (again : ℕ) {count : ℕ} {from to : Reader} {f : Fault} → again ≡ count → Walked R count from to → StopsAmong R again from f → ⊥
     no_second_fault again {from = from} {f = f} e w told_again =
-        let x = subst (λ n. FaultAmong R n from f) e told_again in
+        let x = subst (λ n. FaultAmong n from f) e (fault_among told_again) in
         let next : ℕ → List X → Format = λ n _. check false (out_of_range n) ended in
         let told : (n : ℕ) → f ≡ out_of_range n = λ n. fault_same (x (next n)) (after_many w (next n) failed) in
         let apart : ◌≡◌ {A = ℕ} 0 1 = ap (λ (g : Fault). g.byte) (sym (told 0) ∙ told 1) in
@@ -123,12 +143,13 @@ module _ {X : Type 0} (R : Records X) where
     Expected x rest to (Ok y) = (y ≡ x) × (ahead to ≡ rest)
     Expected x rest to (Err f) = ⊥
 
-    pub reads_expected : (before : List X) (x : X) (rest : List ℕ) {from to : Reader} (r : Result X Fault) → ReadsOne R before from to r → R.allowed before x ≡ true → ahead from ≡ R.encode x rest → Expected x rest to r
+    pub reads_expected : (before : List X) (x : X) (rest : List ℕ) {from to : Reader} (r : Result X Fault) → Reads R from to r → R.allowed before x ≡ true → ahead from ≡ R.encode x rest → Expected x rest to r
     reads_expected before x rest {from} {to} (Ok y) told ok e =
-        let one = laws.same before y x (ahead to) rest told.read.0 ok (sym told.read.1 ∙ e) in (one.0, one.1)
+        let read = told.read before in
+        let one = laws.same before y x (ahead to) rest read.0 ok (sym read.1 ∙ e) in (one.0, one.1)
     reads_expected before x rest {from} {to} (Err f) told ok e =
         let next : ℕ → X → Format = λ n _. check false (out_of_range n) ended in
-        let at : (n : ℕ) → f ≡ out_of_range n = λ n. fault_same (told.read (next n)) (subst (λ l. FirstFault (size from) (R.format before (next n)) l (out_of_range n)) (sym e)
+        let at : (n : ℕ) → f ≡ out_of_range n = λ n. fault_same (told.read before (next n)) (subst (λ l. FirstFault (size from) (R.format before (next n)) l (out_of_range n)) (sym e)
         (laws.carried (size from) (λ format bytes. FirstFault (size from) format bytes (out_of_range n)) (carries_fault (size from) (out_of_range n)) before x (next n) rest ok failed)) in
         let apart : ◌≡◌ {A = ℕ} 0 1 = ap (λ (g : Fault). g.byte) (sym (at 0) ∙ at 1) in
         omega arith

@@ -15,11 +15,11 @@ use Rattle.sitefile.specs.declared.reader.Reader.{Reader}
 use Rattle.sitefile.specs.Readers.{ahead, size}
 use Rattle.sitefile.specs.Numbers.{encode}
 use Rattle.sitefile.specs.Formats.{ended, FirstFault, later}
-use Rattle.sitefile.specs.Records.{Records, encode_all, AllAllowed, many, ReadAll, Walked, FaultAmong}
+use Rattle.sitefile.specs.Records.{Records, encode_all, AllAllowed, many, ReadAll, Walked, StopsAmong}
 use Rattle.sitefile.specs.Tapes.{no_notes_at, places, no_notes_on, is_state_ranged, lane_numbers, last_from, lanes, TapeDescription, KeepsTapeRules, tape_bytes, tape_format, CountsRead, LoadsTape}
 use Rattle.sitefile.proofs.Forms.{encode_same}
 use Rattle.sitefile.proofs.Fields.{at_least, at_most, is_between, field_read, check_passed, Holds, to_the_end, with_check, with_field}
-use Rattle.sitefile.proofs.Lanes.{ranged, places_laws, lane_numbers_laws, lanes_laws}
+use Rattle.sitefile.proofs.TapeRecords.{ranged, places_laws, lane_numbers_laws, lanes_laws}
 use Rattle.sitefile.proofs.Rules.{rules_kept, all_kept, leaving_same, leaving_other}
 use Rattle.sitefile.proofs.Runs.{records_hold, records_same, no_second_fault}
 
@@ -206,7 +206,7 @@ numbers_walk count ps {to = to} w = record {
     same_bytes (l ∷ ls) = ap (λ b. (lane_numbers count).encode l b) (same_bytes ls)
 
 -- the walk that fills the lanes goes over what was checked
-pub no_lane_fault : (count : ℕ) (ps : List Place) {m : ℕ} {filled : List Place} {start mid end : Reader} (from : Reader) (again : ℕ) {f : Fault} → count ≤ most_places → (w : Walked places count start mid) → Walked (lanes count ps) m mid end → ReadAll places (ahead start) filled (ahead from) → length filled ≡ count → size from ≡ size mid → again ≡ m → FaultAmong (lane_numbers count) again from f → ⊥
+pub no_lane_fault : (count : ℕ) (ps : List Place) {m : ℕ} {filled : List Place} {start mid end : Reader} (from : Reader) (again : ℕ) {f : Fault} → count ≤ most_places → (w : Walked places count start mid) → Walked (lanes count ps) m mid end → ReadAll places (ahead start) filled (ahead from) → length filled ≡ count → size from ≡ size mid → again ≡ m → StopsAmong (lane_numbers count) again from f → ⊥
 no_lane_fault count ps {mid = mid} from again few w ls read long same e x =
     let one = records_same places places_laws w.values _ (ahead mid) (ahead from) (w.counted ∙ sym long) w.read.all_allowed read.all_allowed (sym w.read.form ∙ read.form) in
     no_second_fault (lane_numbers count) (lane_numbers_laws count few) again e (moved_walk mid from (sym one.1) same (numbers_walk count ps ls)) x

@@ -20,31 +20,45 @@ layer_number Number = 1
 layer_number Record = 2
 layer_number Site = 3
 
+-- the layer that finds it
+abbrev pub layer_of : Cause → Layer
+layer_of MissingByte = Number
+layer_of MalformedNumber = Number
+layer_of UnknownKind = Site
+layer_of OutOfRange = Record
+layer_of BrokenRule = Record
+layer_of SmallTable = Site
+layer_of BytesLeft = Site
+
+-- the fault of a cause at a byte
+abbrev pub told_at : Cause → ℕ → Fault
+told_at cause byte = record { cause = cause; byte = byte; layer = layer_of cause }
+
 -- a file of `size` bytes ends where a byte is needed
 abbrev pub missing_byte : ℕ → Fault
-missing_byte size = record { cause = MissingByte; byte = size; layer = Number }
+missing_byte size = told_at MissingByte size
 
 -- the number that begins at `first` is malformed
 abbrev pub malformed_number : ℕ → Fault
-malformed_number first = record { cause = MalformedNumber; byte = first; layer = Number }
+malformed_number first = told_at MalformedNumber first
 
 abbrev pub unknown_kind : Fault
-unknown_kind = record { cause = UnknownKind; byte = 0; layer = Site }
+unknown_kind = told_at UnknownKind 0
 
 -- the number that begins at `first` is out of its range
 abbrev pub out_of_range : ℕ → Fault
-out_of_range first = record { cause = OutOfRange; byte = first; layer = Record }
+out_of_range first = told_at OutOfRange first
 
 -- the record that begins at `first` breaks a rule
 abbrev pub broken_rule : ℕ → Fault
-broken_rule first = record { cause = BrokenRule; byte = first; layer = Record }
+broken_rule first = told_at BrokenRule first
 
 abbrev pub small_table : Fault
-small_table = record { cause = SmallTable; byte = 0; layer = Site }
+small_table = told_at SmallTable 0
 
 -- the first byte after the last record is at `first`
 abbrev pub bytes_left : ℕ → Fault
-bytes_left first = record { cause = BytesLeft; byte = first; layer = Site }
+bytes_left first = told_at BytesLeft first
 
 -- a fault as it is printed
 abbrev pub fault_line : Fault → List ℕ

@@ -5,4 +5,5 @@ pub mod Formats
 pub mod Records
 pub mod Floors
 pub mod Tapes
+pub mod TapeParts
 pub mod Sites

@@ -1,5 +1,5 @@
 -- Records of a file, one after another: cells, places, lanes. Assumes nothing.
-use Rattle.std.specs.Prelude.{◌≡◌, ℕ, zero, suc, Bool, true, List, [], ◌∷◌, ◌++◌, length, drop, Result, MatchResult}
+use Rattle.std.specs.Prelude.{◌≡◌, ℕ, zero, suc, ◌<◌, Bool, true, List, [], ◌∷◌, ◌++◌, length, Result, MatchResult}
 use Rattle.sitefile.specs.declared.fault.Fault.{Fault}
 use Rattle.sitefile.specs.declared.reader.Reader.{Reader}
 use Rattle.sitefile.specs.Readers.{ahead, size}
@@ -35,9 +35,9 @@ module _ {X : Type 0} (R : Records X) where
     pub form : bytes ≡ encode_all xs rest
     pub all_allowed : AllAllowed [] xs
 
-  -- A record was read after others, or its fault is told, which is the same whatever follows.
-  pub record ReadsOne (before : List X) (from to : Reader) (r : Result X Fault) : Type 0 where
-    pub read : MatchResult r (λ x. (R.allowed before x ≡ true) × (ahead from ≡ R.encode x (ahead to))) (λ f. (next : X → Format) → FirstFault (size from) (R.format before next) (ahead from) f)
+  -- A record was read, or its fault is told: the same whatever follows, and whatever stands before.
+  pub record Reads (from to : Reader) (r : Result X Fault) : Type 0 where
+    pub read : (before : List X) → MatchResult r (λ x. (R.allowed before x ≡ true) × (ahead from ≡ R.encode x (ahead to))) (λ f. (next : X → Format) → FirstFault (size from) (R.format before next) (ahead from) f)
     pub same_size : size to ≡ size from
 
   -- a reader has come from one place to another over `count` records
@@ -47,11 +47,10 @@ module _ {X : Type 0} (R : Records X) where
     pub read : ReadAll (ahead from) values (ahead to)
     pub same_size : size to ≡ size from
 
-  -- the same, and as many of the table's first entries are those values
-  pub record Filled (count : ℕ) (from to : Reader) (table table' : List X) : Type 0 where
-    pub walk : Walked count from to
-    pub filled : table' ≡ walk.values ++ drop count table
-
-  -- f is a fault of one of the first `count` records, the same whatever follows them
-  abbrev pub FaultAmong : ℕ → Reader → Fault → Type 0
-  FaultAmong count from f = (next : List X → Format) → FirstFault (size from) (many count [] next) (ahead from) f
+  -- after fewer than `count` records there is one with the fault f, the same whatever follows
+  pub record StopsAmong (count : ℕ) (from : Reader) (f : Fault) : Type 0 where
+    pub done : ℕ
+    pub mid : Reader
+    pub few : done < count
+    pub walk : Walked done from mid
+    pub fault : (next : X → Format) → FirstFault (size mid) (R.format walk.values next) (ahead mid) f

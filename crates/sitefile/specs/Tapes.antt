@@ -1,5 +1,5 @@
 -- The file of a tape. Assumes nothing.
-use Rattle.std.specs.Prelude.{◌≡◌, ℕ, ◌+◌, ◌*◌, ◌/◌, ◌%◌, ◌<◌, ◌≤◌, Bool, true, cond, ◌&&◌, nat_lt, nat_le, List, [], ◌∷◌, ◌++◌, length, drop, ℤ, pos, negsuc, Ok, Err, Result, MatchResult, ◌==◌, slice_index}
+use Rattle.std.specs.Prelude.{◌≡◌, ℕ, ◌+◌, ◌*◌, ◌/◌, ◌%◌, ◌≤◌, Bool, true, cond, ◌&&◌, nat_lt, nat_le, List, [], ◌∷◌, ◌++◌, length, drop, ℤ, pos, negsuc, Ok, Err, Result, ◌==◌}
 use Rattle.std.specs.List.{AllByRecursion}
 use Rattle.tables.specs.declared.tape.TapeHead.{TapeHead}
 use Rattle.tables.specs.declared.tape.Place.{Place}
@@ -8,15 +8,12 @@ use Rattle.tables.specs.declared.tape.LaneCost.{LaneCost}
 use Rattle.tables.specs.States.{LaneState}
 use Rattle.tables.specs.declared.State.TheVariants.{Closed, Open}
 use Rattle.tables.specs.Floors.{between, longest_segment}
-use Rattle.tables.specs.Tapes.{farthest, most_places, most_lanes, most_leaving, most_crossings, is_place, larger_difference, is_lane_cost, is_state_not_under, place_at, leaving, SoundTape}
+use Rattle.tables.specs.Tapes.{farthest, most_places, most_lanes, most_leaving, most_crossings, is_place, larger_difference, is_lane_cost, is_state_not_under, unnoted_place, unnoted_lane, place_at, leaving, SoundTape}
 use Rattle.sitefile.specs.declared.fault.Fault.{Fault}
-use Rattle.sitefile.specs.declared.reader.Reader.{Reader}
-use Rattle.sitefile.specs.declared.tape.LaneRun.{LaneRun}
-use Rattle.sitefile.specs.Readers.{ahead, size}
 use Rattle.sitefile.specs.Faults.{small_table, broken_rule}
 use Rattle.sitefile.specs.Numbers.{encode}
 use Rattle.sitefile.specs.Formats.{Format, ended, position, check, field, FirstFault}
-use Rattle.sitefile.specs.Records.{Records, encode_all, many, ReadAll, Walked}
+use Rattle.sitefile.specs.Records.{Records, encode_all, many}
 
 -- the byte that a tape's file begins with
 abbrev pub tape_kind : ℕ
@@ -33,10 +30,6 @@ zigzag (negsuc n) = 2 * n + 1
 abbrev pub unzigzag : ℕ → ℤ
 unzigzag n = cond (n % 2 == 0) (pos (n / 2)) (negsuc (n / 2))
 
--- a place as a file tells it, without the notes that a tape makes for itself
-abbrev pub placed : ℤ → ℤ → Place
-placed x y = record { x = x; y = y; first = 0; ways = 0; entry_first = 0; entries = 0 }
-
 abbrev pub no_notes_at : Place → Bool
 no_notes_at p = p.first == 0 && p.ways == 0 && p.entry_first == 0 && p.entries == 0
 
@@ -47,14 +40,11 @@ is_coordinate_number n = between 0 (2 * farthest) n
 abbrev pub places : Records Place
 places = record {
   encode = λ p rest. encode (zigzag p.x) ++ (encode (zigzag p.y) ++ rest);
-  format = λ _ next. field is_coordinate_number (λ x. field is_coordinate_number (λ y. next (placed (unzigzag x) (unzigzag y))));
+  format = λ _ next. field is_coordinate_number (λ x. field is_coordinate_number (λ y. next (unnoted_place (unzigzag x) (unzigzag y))));
   allowed = λ _ p. is_place p && no_notes_at p;
 }
 
 -- Lanes
-
-abbrev pub lane_of : ℕ → ℕ → LaneCost → LaneState → Lane
-lane_of from to floor state = record { from = from; to = to; floor = floor; state = state; entering = 0; slot = 0 }
 
 abbrev pub no_notes_on : Lane → Bool
 no_notes_on l = l.entering == 0 && l.slot == 0
@@ -65,6 +55,13 @@ cost_format next = field (between 0 most_crossings) (λ crossings. field (betwee
 abbrev pub encode_cost : LaneCost → List ℕ → List ℕ
 encode_cost c rest = encode c.crossings ++ (encode c.milliseconds ++ rest)
 
+abbrev pub costs : Records LaneCost
+costs = record {
+  encode = encode_cost;
+  format = λ _ next. cost_format next;
+  allowed = λ _ c. is_lane_cost c;
+}
+
 -- 0 for closed, or 1 and the present cost
 abbrev pub state_format : (LaneState → Format) → Format
 state_format next = field (between 0 1) (λ state. cond (state == 0) (next Closed) (cost_format (λ cost. next (Open cost))))
@@ -73,17 +70,24 @@ abbrev pub encode_state : LaneState → List ℕ → List ℕ
 encode_state Closed rest = encode 0 ++ rest
 encode_state (Open c) rest = encode 1 ++ encode_cost c rest
 
--- from, to, floor cost and state
-abbrev pub lane_format : ℕ → (Lane → Format) → Format
-lane_format count next =
-    field (λ n. nat_lt n count) (λ from. field (λ n. nat_lt n count) (λ to. cost_format (λ floor. state_format (λ state. next (lane_of from to floor state)))))
-
-abbrev pub encode_lane : Lane → List ℕ → List ℕ
-encode_lane l rest = encode l.from ++ (encode l.to ++ encode_cost l.floor (encode_state l.state rest))
-
 abbrev pub is_state_ranged : LaneState → Bool
 is_state_ranged Closed = true
 is_state_ranged (Open c) = is_lane_cost c
+
+abbrev pub states : Records LaneState
+states = record {
+  encode = encode_state;
+  format = λ _ next. state_format next;
+  allowed = λ _ s. is_state_ranged s;
+}
+
+-- from, to, floor cost and state
+abbrev pub lane_format : ℕ → (Lane → Format) → Format
+lane_format count next =
+    field (λ n. nat_lt n count) (λ from. field (λ n. nat_lt n count) (λ to. cost_format (λ floor. state_format (λ state. next (unnoted_lane from to floor state)))))
+
+abbrev pub encode_lane : Lane → List ℕ → List ℕ
+encode_lane l rest = encode l.from ++ (encode l.to ++ encode_cost l.floor (encode_state l.state rest))
 
 -- are the numbers of a lane between `count` places in their ranges?
 abbrev pub is_lane_ranged : ℕ → Lane → Bool
@@ -148,21 +152,6 @@ abbrev pub tape_format : ℕ → ℕ → Format
 tape_format place_entries lane_entries =
     field (between 1 most_places) (λ n. field (between 0 most_lanes) (λ m. check (nat_le n place_entries && nat_le m lane_entries) small_table (many places n [] (λ ps. many (lanes n ps) m [] (λ _. ended)))))
 
--- What the parts of the reader come to
-
--- Where places stand in the bytes that a reader has ahead: every 64th of them begins at an offset.
-pub record PlacesAt (ps : List Place) (rest : List ℕ) (first : Reader) (offsets : List ℕ) : Type 0 where
-  pub read : ReadAll places (ahead first) ps rest
-  pub found : (k : ℕ) → 64 * k < length ps → drop (slice_index offsets k) (ahead first) ≡ encode_all places (drop (64 * k) ps) rest
-
--- What the reader keeps of the lanes before: which place the last of them leaves, where that lies, and how many leave it.
-pub record RunOf (ps : List Place) (before : List Lane) (run : LaneRun) : Type 0 where
-  pub last : run.from ≡ last_from before
-  pub counted : run.count ≡ length (leaving run.from 0 before)
-  pub located : 1 ≤ run.count → run.place ≡ place_at ps run.from
-  -- no lane before leaves a place above the last one's
-  pub sorted : (p : ℕ) → run.from < p → length (leaving p 0 before) ≡ 0
-
 -- the counts of a tape, for which the tables are large enough
 pub record CountsRead (place_entries lane_entries : ℕ) (bytes : List ℕ) (head : TapeHead) (rest : List ℕ) : Type 0 where
   pub form : bytes ≡ encode head.places ++ (encode head.lanes ++ rest)
@@ -176,18 +165,3 @@ LoadsTape size bytes pt pt' lt lt' (Ok head) =
     (d : TapeDescription) × KeepsTapeRules d × (bytes ≡ tape_bytes d) × (length d.places_told ≤ length pt) × (length d.lanes_told ≤ length lt) × (head ≡ tape_head d)
     × (pt' ≡ d.places_told ++ drop (length d.places_told) pt) × (lt' ≡ d.lanes_told ++ drop (length d.lanes_told) lt)
 LoadsTape size bytes pt pt' lt lt' (Err f) = FirstFault size (tape_format (length pt) (length lt)) bytes f × (pt' ≡ pt) × (lt' ≡ lt)
-
--- `count` places were walked over, and every 64th of them begins at an offset
-pub record PlacesWalked (count : ℕ) (from to : Reader) (offsets : List ℕ) : Type 0 where
-  pub walk : Walked places count from to
-  pub found : (k : ℕ) → 64 * k < count → drop (slice_index offsets k) (ahead from) ≡ encode_all places (drop (64 * k) walk.values) (ahead to)
-
--- a part of a record was read, or its fault is told, which is the same whatever follows
-pub record ReadsPart {X : Type 0} (format : (X → Format) → Format) (encoded : X → List ℕ → List ℕ) (allowed : X → Bool) (from to : Reader) (r : Result X Fault) : Type 0 where
-  pub read : MatchResult r (λ x. (allowed x ≡ true) × (ahead from ≡ encoded x (ahead to))) (λ f. (next : X → Format) → FirstFault (size from) (format next) (ahead from) f)
-  pub same_size : size to ≡ size from
-
--- `done` lanes were walked over, and the run of the last of them is kept
-pub record LanesWalked (count : ℕ) (ps : List Place) (done : ℕ) (from to : Reader) (run : LaneRun) : Type 0 where
-  pub walk : Walked (lanes count ps) done from to
-  pub run_of : RunOf ps walk.values run

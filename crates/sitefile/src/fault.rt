@@ -1,39 +1,53 @@
 // What the reader says of a file that it does not take.
 ghost use Rattle.std.specs.Prelude.{◌≡◌, Some};
-ghost use Rattle.sitefile.specs.Faults.{cause_number, layer_number, fault_line};
+ghost use Rattle.sitefile.specs.Faults.{cause_number, layer_number, layer_of, told_at, fault_line};
 
 use std::fmt;
 
 #[derive(Clone, Copy, Debug, PartialEq, Eq)]
 pub enum Cause {
     // No byte where one is needed.
-    MissingByte,
+    MissingByte = 21,
     // A number that is not in its shortest form, or too great.
-    MalformedNumber,
+    MalformedNumber = 22,
     // The first byte is of no known kind.
-    UnknownKind,
+    UnknownKind = 23,
     // A number outside its range.
-    OutOfRange,
+    OutOfRange = 24,
     // A lane that breaks a rule of lanes.
-    BrokenRule,
+    BrokenRule = 25,
     // A table of the customer's with too few entries.
-    SmallTable,
+    SmallTable = 26,
     // Something follows the last record.
-    BytesLeft,
+    BytesLeft = 27,
 }
 
 impl Cause {
     pub fn number(self) -> u8
         ensures { result ≡ cause_number self }
     {
+        self as u8
+    }
+
+    // The layer that finds it.
+    fn layer(self) -> Layer
+        ensures { result ≡ layer_of self }
+    {
         match self {
-            Cause::MissingByte => 21,
-            Cause::MalformedNumber => 22,
-            Cause::UnknownKind => 23,
-            Cause::OutOfRange => 24,
-            Cause::BrokenRule => 25,
-            Cause::SmallTable => 26,
-            Cause::BytesLeft => 27,
+            Cause::MissingByte | Cause::MalformedNumber => Layer::Number,
+            Cause::OutOfRange | Cause::BrokenRule => Layer::Record,
+            Cause::UnknownKind | Cause::SmallTable | Cause::BytesLeft => Layer::Site,
+        }
+    }
+
+    // The fault of this cause at a byte.
+    pub(crate) fn at(self, byte: usize) -> Fault
+        ensures { result ≡ told_at self byte }
+    {
+        Fault {
+            cause: self,
+            byte,
+            layer: self.layer(),
         }
     }
 }
@@ -41,20 +55,16 @@ impl Cause {
 // The layer of the reader that found the fault.
 #[derive(Clone, Copy, Debug, PartialEq, Eq)]
 pub enum Layer {
-    Number,
-    Record,
-    Site,
+    Number = 1,
+    Record = 2,
+    Site = 3,
 }
 
 impl Layer {
     pub fn number(self) -> u8
         ensures { result ≡ layer_number self }
     {
-        match self {
-            Layer::Number => 1,
-            Layer::Record => 2,
-            Layer::Site => 3,
-        }
+        self as u8
     }
 }
 

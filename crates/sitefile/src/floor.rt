@@ -1,35 +1,41 @@
 // The file of a floor: after its first byte the rows, the columns, the free time and each cell.
-ghost use Rattle.std.specs.Prelude.{◌≡◌, ◌≤◌, [], length, MatchResult};
+ghost use Rattle.std.specs.Prelude.{◌≡◌, ◌≤◌, MatchResult};
 ghost use Rattle.sitefile.specs.Readers.{ahead, size};
 ghost use Rattle.sitefile.specs.Formats.{FirstFault};
-ghost use Rattle.sitefile.specs.Records.{ReadAll, ReadsOne, Walked, FaultAmong};
 ghost use Rattle.sitefile.specs.Floors.{cells, floor_format, HeadRead, LoadsFloor};
 
-use crate::fault::{Cause, Fault, Layer};
+use crate::fault::{Cause, Fault};
 use crate::reader::Reader;
+use crate::records::Layout;
 use tables::{Cell, FloorHead, LONGEST_SEGMENT, LONGEST_SIDE};
 
-impl Reader<'_> {
-    // A cell: 0 for closed, or the time to enter it.
-    fn cell(&mut self, free: u32) -> Result<Cell, Fault>
-        requires { 1 ≤ free }
-        ensures { ReadsOne (cells free) [] self.old self.new result }
-    {
-        let at = self.at;
-        let time = self.number()?;
+// The cells of a floor with this free time: 0 for closed, or the time to enter it.
+#[derive(Clone, Copy)]
+pub(crate) struct Cells {
+    free: u32,
+    ghost some: { 1 ≤ free },
+}
+
+impl Layout for Cells {
+    type Item = Cell;
+
+    ghost records = { λ layout. cells layout.free };
+
+    fn read(&self, reader: &mut Reader<'_>) -> Result<Cell, Fault> {
+        let free = self.free;
+        let at = reader.at;
+        let time = reader.number()?;
         if time == 0 {
             return Ok(Cell::Closed);
         }
         if time < free || LONGEST_SEGMENT < time {
-            return Err(Fault {
-                cause: Cause::OutOfRange,
-                byte: at,
-                layer: Layer::Record,
-            });
+            return Err(Cause::OutOfRange.at(at));
         }
         Ok(Cell::Open(time))
     }
+}
 
+impl Reader<'_> {
     // The head of a floor that is to be read into a table with `entries` entries.
     fn floor_head(&mut self, entries: usize) -> Result<FloorHead, Fault>
         ensures size { size self.new ≡ size self.old }
@@ -38,11 +44,7 @@ impl Reader<'_> {
         let rows = self.ranged(1, LONGEST_SIDE)?;
         let columns = self.ranged(1, LONGEST_SIDE)?;
         if entries < (rows * columns) as usize {
-            return Err(Fault {
-                cause: Cause::SmallTable,
-                byte: 0,
-                layer: Layer::Site,
-            });
+            return Err(Cause::SmallTable.at(0));
         }
         let free = self.ranged(1, LONGEST_SEGMENT)?;
         Ok(FloorHead {
@@ -50,28 +52,6 @@ impl Reader<'_> {
             columns,
             free,
         })
-    }
-
-    // Walks over `count` cells.
-    fn check_cells(&mut self, count: u32, free: u32) -> Result<(), Fault>
-        requires { 1 ≤ free }
-        ensures { MatchResult result (λ _. Walked (cells free) count self.old self.new) (λ f. FaultAmong (cells free) count self.old f) }
-    {
-        for _i in 0..count {
-            self.cell(free)?;
-        }
-        Ok(())
-    }
-
-    // Fills each entry of a table from a cell.
-    fn fill_cells(&mut self, free: u32, table: &mut [Cell]) -> Result<(), Fault>
-        requires { 1 ≤ free }
-        ensures { MatchResult result (λ _. ReadAll (cells free) (ahead self.old) table.new (ahead self.new)) (λ f. FaultAmong (cells free) (length table.old) self.old f) }
-    {
-        for entry in table.iter_mut() {
-            *entry = self.cell(free)?;
-        }
-        Ok(())
     }
 }
 
@@ -81,9 +61,10 @@ pub(crate) fn load_floor(mut reader: Reader<'_>, table: &mut [Cell]) -> Result<F
 {
     let head = reader.floor_head(table.len())?;
     let count = head.rows * head.columns;
+    let layout = Cells { free: head.free };
     let mut walk = reader;
-    walk.check_cells(count, head.free)?;
+    walk.pass_over(&layout, count)?;
     walk.end()?;
-    reader.fill_cells(head.free, &mut table[..count as usize])?;
+    reader.fill(&layout, &mut table[..count as usize])?;
     Ok(head)
 }

@@ -3,8 +3,11 @@
 
 pub mod fault;
 mod floor;
+mod lane_run;
+mod lanes;
 pub mod loader;
 mod numbers;
+mod places;
 mod reader;
 mod records;
 mod tape;

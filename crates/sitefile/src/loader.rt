@@ -1,7 +1,7 @@
 // A site file of any kind: its first byte decides how all bytes after it are read.
 ghost use Rattle.sitefile.specs.Sites.{tables_of, Loads};
 
-use crate::fault::{Cause, Fault, Layer};
+use crate::fault::{Cause, Fault};
 use crate::floor::load_floor;
 use crate::reader::Reader;
 use crate::tape::load_tape;
@@ -30,11 +30,7 @@ pub fn load(
     ensures { Loads file.now (tables_of cells.old places.old lanes.old) (tables_of cells.new places.new lanes.new) result }
 {
     let [kind, rest @ ..] = file else {
-        return Err(Fault {
-            cause: Cause::MissingByte,
-            byte: 0,
-            layer: Layer::Number,
-        });
+        return Err(Cause::MissingByte.at(0));
     };
     match *kind {
         FLOOR => {
@@ -45,10 +41,6 @@ pub fn load(
             let head = load_tape(Reader::after_kind(rest), places, lanes)?;
             Ok(SiteHead::Tape(head))
         }
-        _ => Err(Fault {
-            cause: Cause::UnknownKind,
-            byte: 0,
-            layer: Layer::Site,
-        }),
+        _ => Err(Cause::UnknownKind.at(0)),
     }
 }

@@ -4,7 +4,7 @@ ghost use Rattle.sitefile.specs.Faults.{missing_byte};
 ghost use Rattle.sitefile.specs.Readers.{ahead, size};
 ghost use Rattle.sitefile.specs.Numbers.{BeginsBy, FaultBy, ReadsNumber};
 
-use crate::fault::{Cause, Fault, Layer};
+use crate::fault::{Cause, Fault};
 use crate::reader::Reader;
 
 // A byte from here on says that another follows.
@@ -39,11 +39,7 @@ impl<'a> Reader<'a> {
         ensures read { MatchResult result (λ b. ahead self.old ≡ b ∷ ahead self.new) (λ f. (f ≡ missing_byte (size self.old)) × (ahead self.old ≡ [])) }
     {
         let [byte, rest @ ..] = self.left else {
-            return Err(Fault {
-                cause: Cause::MissingByte,
-                byte: self.at,
-                layer: Layer::Number,
-            });
+            return Err(Cause::MissingByte.at(self.at));
         };
         self.left = rest;
         self.at += 1;
@@ -56,11 +52,7 @@ impl<'a> Reader<'a> {
         ensures size { size self.new ≡ size self.old }
         ensures read { MatchResult result (λ n. BeginsBy more (ahead self.old) n (ahead self.new)) (λ f. FaultBy more first (size self.old) (ahead self.old) f) }
     {
-        let malformed = Fault {
-            cause: Cause::MalformedNumber,
-            byte: first,
-            layer: Layer::Number,
-        };
+        let malformed = Cause::MalformedNumber.at(first);
         let byte = self.byte()?;
         if more == 0 {
             if byte > LAST_GROUP {
@@ -86,5 +78,14 @@ impl<'a> Reader<'a> {
         let n = walk.groups(self.at, MORE)?;
         *self = walk;
         Ok(n)
+    }
+}
+
+// With nothing ahead: what an `ArrayVec` has in the entries that are not in use.
+impl Default for Reader<'_> {
+    ghost is_default = { λ reader. ahead reader ≡ [] };
+
+    fn default() -> Self {
+        Reader::new(&[])
     }
 }

@@ -12,7 +12,7 @@ use Rattle.sitefile.proofs.loader.load.Goals as goal
 pub returns-in_default : goal.returns-in_default
 returns-in_default c =
     let none : length c.args.file.now ≡ 0 = search rules in
-    load_faulty (empty (nil_from_length _ none) refl)
+    rw c.at.ensures (load_faulty (empty (nil_from_length _ none) refl))
 
 pub returns-in_err-head-in-70 : goal.returns-in_err-head-in-70
 returns-in_err-head-in-70 c =
@@ -51,4 +51,4 @@ returns-in_ok-head-in-84 c =
 pub returns-in_default-kind : goal.returns-in_default-kind
 returns-in_default-kind c =
     let some : 0 < length c.args.file.now = search rules in
-    load_faulty (unknown _ _ (first_rest c.args.file.now 0 some) (search rules) (search rules) refl)
+    rw c.at-in_default-kind.ensures (load_faulty (unknown _ _ (first_rest c.args.file.now 0 some) (search rules) (search rules) refl))

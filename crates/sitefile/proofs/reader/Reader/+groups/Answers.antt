@@ -24,7 +24,7 @@ returns-then-higher-eq0 t c =
     let told = c.in_ok-higher.ensures in
     record {
       size = told.size ∙ byte.size;
-      read = zero_after (omega arith) byte.read c.if-byte-lt-CONTINUED.false c.if-higher-eq0.true told.read;
+      read = rw c.at-malformed.ensures (zero_after (omega arith) byte.read c.if-byte-lt-CONTINUED.false c.if-higher-eq0.true told.read);
     }
 
 pub overflow_mul-result : goal.overflow_mul-result
@@ -49,4 +49,4 @@ returns t c =
 pub returns-then-byte-gt-LAST_GROUP : goal.returns-then-byte-gt-LAST_GROUP
 returns-then-byte-gt-LAST_GROUP t c =
     let byte = c.in_ok-byte.ensures in
-    record { size = byte.size; read = great_group c.if-more-eq0.true byte.read (omega arith) }
+    record { size = byte.size; read = rw c.at-malformed.ensures (great_group c.if-more-eq0.true byte.read (omega arith)) }

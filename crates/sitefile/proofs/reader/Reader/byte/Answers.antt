@@ -1,4 +1,4 @@
-use Rattle.std.proofs.Common.{◌≡◌, ◌<◌, length, refl, ap, arith, rules}
+use Rattle.std.proofs.Common.{◌≡◌, ◌<◌, length, refl, ap, ◌∙◌, arith, rules}
 use Rattle.std.proofs.lemmas.List.{nil_from_length}
 use Rattle.std.proofs.lemmas.Slice.{first_rest}
 use Rattle.sitefile.specs.Faults.{missing_byte}
@@ -7,7 +7,7 @@ use Rattle.sitefile.proofs.reader.Reader.byte.Goals as goal
 pub returns-in_default : goal.returns-in_default
 returns-in_default c =
     let none : length c.args.self.now.left.now ≡ 0 = search rules in
-    record { size = refl; read = (ap missing_byte (omega arith), nil_from_length _ none) }
+    record { size = refl; read = (c.at.ensures ∙ ap missing_byte (omega arith), nil_from_length _ none) }
 
 pub returns : goal.returns
 returns c =

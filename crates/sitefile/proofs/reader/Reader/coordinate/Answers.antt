@@ -1,6 +1,6 @@
 use Rattle.std.proofs.Common.{arith}
 use Rattle.std.proofs.lemmas.Int.{ints}
-use Rattle.sitefile.proofs.Lanes.{below_zero}
+use Rattle.sitefile.proofs.TapeRecords.{below_zero}
 use Rattle.sitefile.proofs.reader.Reader.coordinate.Goals as goal
 
 pub returns-else-n-eq0 : goal.returns-else-n-eq0

@@ -11,4 +11,4 @@ returns-in-empty c =
 pub returns-in-len1-up : goal.returns-in-len1-up
 returns-in-len1-up c =
     let some : 0 < length c.args.self.now.left.now = search rules in
-    more_left _ _ _ some (omega arith)
+    rw c.at.ensures (more_left _ _ _ some (omega arith))

@@ -22,7 +22,7 @@ pub returns-then-entries-rows : goal.returns-then-entries-rows
 returns-then-entries-rows c =
     let rows = c.in_ok-rows.ensures in
     let columns = c.in_ok-columns.ensures in
-    record { size = columns.size ∙ rows.size; read = later _ _ rows.read (later _ _ columns.read (check_failed (lt-leb (c.in_ok-rows.rows * c.in_ok-columns.columns) c.args.entries (omega arith)))) }
+    record { size = columns.size ∙ rows.size; read = rw c.at.ensures (later _ _ rows.read (later _ _ columns.read (check_failed (lt-leb (c.in_ok-rows.rows * c.in_ok-columns.columns) c.args.entries (omega arith))))) }
 
 pub returns-in_err-free : goal.returns-in_err-free
 returns-in_err-free c =

@@ -1,18 +1,14 @@
-use Rattle.std.proofs.Common.{ap, arith}
 use Rattle.std.proofs.lemmas.Result.{err_from_is_err_and}
-use Rattle.std.proofs.lemmas.Bool.{le-ltb}
-use Rattle.sitefile.specs.Faults.{out_of_range}
-use Rattle.sitefile.specs.Formats.{no_number, outside}
-use Rattle.sitefile.proofs.Walks.{begins_number, size_kept, number_fault, size_stays}
+use Rattle.sitefile.proofs.TapeRecords.{number_read, number_refused}
 use Rattle.sitefile.proofs.reader.Reader.place_number.Goals as goal
 
 pub returns-in_err-n : goal.returns-in_err-n
 returns-in_err-n c =
     let told = c.in_err-n.ensures in
     let p = err_from_is_err_and c.from_residual.result c.from_residual.ensures.1 in
-    record { size = size_stays told; read = rw (p.1, p.2) (no_number (number_fault told)) }
+    record { size = told.size; read = rw (p.1, p.2) (number_refused c.requires.some told.read) }
 
-pub returns-then-n-count : goal.returns-then-n-count
-returns-then-n-count c =
+pub returns : goal.returns
+returns c =
     let told = c.in_ok-n.ensures in
-    record { size = size_kept told; read = outside _ _ (begins_number told) (le-ltb c.in_ok-n.n c.args.count (omega arith)) (ap out_of_range (omega arith)) }
+    record { size = told.size; read = number_read c.requires.some told.read }

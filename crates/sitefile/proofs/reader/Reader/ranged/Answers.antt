@@ -1,8 +1,7 @@
-use Rattle.std.proofs.Common.{ap, arith}
+use Rattle.std.proofs.Common.{ap, ◌∙◌, arith, rules}
 use Rattle.std.proofs.lemmas.Result.{err_from_is_err_and}
 use Rattle.sitefile.specs.Faults.{out_of_range}
 use Rattle.sitefile.specs.Formats.{no_number, outside}
-use Rattle.sitefile.proofs.Fields.{not_between}
 use Rattle.sitefile.proofs.Walks.{begins_number, size_kept, number_fault, size_stays}
 use Rattle.sitefile.proofs.reader.Reader.ranged.Goals as goal
 
@@ -12,7 +11,8 @@ returns-in_err-n c =
     let p = err_from_is_err_and c.from_residual.result c.from_residual.ensures.1 in
     record { size = size_stays told; read = rw (p.1, p.2) (no_number (number_fault told)) }
 
-pub returns-then-n-lowest : goal.returns-then-n-lowest
-returns-then-n-lowest c =
+pub returns-then-not-contains : goal.returns-then-not-contains
+returns-then-not-contains c =
     let told = c.in_ok-n.ensures in
-    record { size = size_kept told; read = outside _ _ (begins_number told) (not_between _ _ _ c.then-n-lowest.either) (ap out_of_range (omega arith)) }
+    let h = c.if-not-contains.ensures.value in
+    record { size = size_kept told; read = outside _ _ (begins_number told) (search rules) (c.at.ensures ∙ ap out_of_range (omega arith)) }

@@ -1,0 +1,94 @@
+-- Places found by their numbers. Assumes nothing.
+use Rattle.std.proofs.Common.{◌≡◌, ℕ, zero, suc, ◌+◌, ◌*◌, ◌%◌, ◌<◌, ◌≤◌, true, ◌&&◌, List, [], ◌∷◌, ◌++◌, length, drop, Some, Ok, Err, Result, sym, refl, ap, ◌∙◌, ⊎_elim, arith}
+use Rattle.std.specs.Result.{result_ok}
+use Rattle.std.proofs.lemmas.List.{drop_more, drop_all, drop-append-le, get_or_append_left, get_or_at, length_push}
+use Rattle.std.proofs.lemmas.Bool.{cases_lt}
+use Rattle.tables.specs.declared.tape.Place.{Place}
+use Rattle.tables.specs.Tapes.{is_place, no_place, place_at}
+use Rattle.sitefile.specs.declared.fault.Fault.{Fault}
+use Rattle.sitefile.specs.declared.reader.Reader.{Reader}
+use Rattle.sitefile.specs.declared.places.PlaceIndex.{PlaceIndex}
+use Rattle.sitefile.specs.Readers.{ahead}
+use Rattle.sitefile.specs.Records.{encode_all, AllAllowed, Reads, Walked}
+use Rattle.sitefile.specs.Tapes.{no_notes_at, places}
+use Rattle.sitefile.specs.TapeParts.{PlacesAt, PlacesWalked, PlacesFound}
+use Rattle.sitefile.proofs.TapeRecords.{places_laws}
+use Rattle.sitefile.proofs.Runs.{stands, one_more, encode_push, reads_expected}
+
+-- a place more
+
+pub noted_none : (r : Reader) → PlacesWalked 0 r r []
+unfolding stands
+noted_none r = record { walk = stands places r; noted = refl; found = λ k d h. absurd (omega arith) }
+
+-- what was found stays found when a place more is read
+found_more : {i : ℕ} {from mid : Reader} (to : Reader) (p : Place) (w : Walked places i from mid) (k : ℕ) {bytes : List ℕ} → 64 * k ≤ i → ahead mid ≡ places.encode p (ahead to) → bytes ≡ encode_all places (drop (64 * k) w.values) (ahead mid) → bytes ≡ encode_all places (drop (64 * k) (w.values ++ p ∷ [])) (ahead to)
+found_more to p w k low form e =
+    e ∙ ap (encode_all places (drop (64 * k) w.values)) form
+    ∙ encode_push places (drop (64 * k) w.values) p (ahead to)
+    ∙ ap (λ l. encode_all places l (ahead to)) (sym (drop-append-le (64 * k) w.values (p ∷ []) (omega (arith, w.counted))))
+
+pub noted_more : {i : ℕ} {from mid to : Reader} {starts : List Reader} {p : Place} (n : PlacesWalked i from mid starts) → (i % 64 ≡ 0 → ⊥) → Reads places mid to (Ok p) → PlacesWalked (i + 1) from to starts
+unfolding one_more
+noted_more {i} {to = to} {p = p} n off r =
+    let one = r.read n.walk.values in
+    let noted = n.noted in
+    record {
+      walk = one_more places n.walk r;
+      noted = omega arith;
+      found = λ k d h. let below : 64 * k < i = omega arith in found_more to p n.walk k (omega arith) one.1 (n.found k d below);
+    }
+
+pub noted_here : {i : ℕ} {from mid to : Reader} {starts : List Reader} {p : Place} (n : PlacesWalked i from mid starts) → i % 64 ≡ 0 → Reads places mid to (Ok p) → PlacesWalked (i + 1) from to (starts ++ mid ∷ [])
+unfolding one_more
+noted_here {i} {from} {mid} {to} {starts} {p} n on r =
+    let one = r.read n.walk.values in
+    let noted = n.noted in
+    record {
+      walk = one_more places n.walk r;
+      noted = omega (arith, length_push starts mid);
+      found = λ k d h. ⊎_elim
+          (λ (before : k < length starts).
+          let below : 64 * k < i = omega arith in
+          found_more to p n.walk k (omega arith) one.1 (ap ahead (get_or_append_left starts (mid ∷ []) d k before) ∙ n.found k d below))
+          (λ (last : length starts ≤ k).
+          let all : 64 * k ≡ i = omega arith in
+          let none : drop (64 * k) n.walk.values ≡ [] = drop_all (64 * k) n.walk.values (omega (arith, n.walk.counted)) in
+          found_more to p n.walk k (omega arith) one.1 (ap ahead (get_or_at starts mid [] d k (omega arith)) ∙ sym (ap (λ l. encode_all places l (ahead mid)) none)))
+          (cases_lt k (length starts));
+    }
+
+pub places_found : {from to : Reader} (index : PlaceIndex) → PlacesWalked index.count from to index.starts.items → PlacesFound index.count from to index
+places_found {to = to} index n = record {
+  walk = n.walk;
+  at = record {
+    counted = n.walk.counted;
+    all_allowed = n.walk.read.all_allowed;
+    rest = ahead to;
+    found = λ k d h. n.found k d (omega (arith, n.walk.counted));
+  };
+}
+
+pub same_count : {count : ℕ} {from to : Reader} {index : PlaceIndex} → PlacesFound count from to index → index.count ≡ count
+same_count f = sym f.at.counted ∙ f.walk.counted
+
+-- The place at a number
+
+allowed_at : (before ps : List Place) (i : ℕ) → AllAllowed places before ps → i < length ps → is_place (place_at ps i) && no_notes_at (place_at ps i) ≡ true
+allowed_at before [] i all h = absurd (omega arith)
+allowed_at before (p ∷ ps) zero all h = all.0
+allowed_at before (p ∷ ps) (suc i) all h = allowed_at (before ++ p ∷ []) ps i all.1 (omega arith)
+
+module _ {ps : List Place} {index : PlaceIndex} (at : PlacesAt ps index) where
+  here_is : (i : ℕ) {bytes : List ℕ} → i < length ps → bytes ≡ encode_all places (drop i ps) at.rest → bytes ≡ places.encode (place_at ps i) (encode_all places (drop (i + 1) ps) at.rest)
+  here_is i few e = e ∙ ap (λ l. encode_all places l at.rest) (drop_more ps i no_place few)
+
+  -- the record that stands there is read
+  pub find_one : (i : ℕ) {from to : Reader} (r : Result Place Fault) → i < index.count → ahead from ≡ encode_all places (drop i ps) at.rest → Reads places from to r → (result_ok r ≡ Some (place_at ps i)) × (ahead to ≡ encode_all places (drop (i + 1) ps) at.rest)
+  find_one i (Ok p) few e r =
+      let low : i < length ps = omega (arith, at.counted) in
+      let one = reads_expected places places_laws [] (place_at ps i) (encode_all places (drop (i + 1) ps) at.rest) (Ok p) r (allowed_at [] ps i at.all_allowed low) (here_is i low e) in
+      (ap Some one.0, one.1)
+  find_one i (Err f) few e r =
+      let low : i < length ps = omega (arith, at.counted) in
+      absurd (reads_expected places places_laws [] (place_at ps i) (encode_all places (drop (i + 1) ps) at.rest) (Err f) r (allowed_at [] ps i at.all_allowed low) (here_is i low e))

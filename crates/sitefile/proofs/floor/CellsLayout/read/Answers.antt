@@ -1,0 +1,21 @@
+use Rattle.std.proofs.Common.{ap, ◌∙◌, arith}
+use Rattle.std.proofs.lemmas.Result.{err_from_is_err_and}
+use Rattle.sitefile.specs.Faults.{out_of_range}
+use Rattle.sitefile.specs.Formats.{no_number, outside, here}
+use Rattle.sitefile.proofs.Cells.{no_cell}
+use Rattle.sitefile.proofs.Walks.{begins_number, size_kept, number_fault, size_stays}
+use Rattle.sitefile.proofs.floor.CellsLayout.read.Goals as goal
+
+pub returns-in_err-time : goal.returns-in_err-time
+returns-in_err-time c =
+    let told = c.in_err-time.ensures in
+    let p = err_from_is_err_and c.from_residual.result c.from_residual.ensures.1 in
+    rw (p.1, p.2) (record { read = λ before next. here (no_number (number_fault told)); same_size = size_stays told })
+
+pub returns-then-time-free : goal.returns-then-time-free
+returns-then-time-free c =
+    let told = c.in_ok-time.ensures in
+    record {
+      read = λ before next. here (outside _ _ (begins_number told) (no_cell _ _ c.if-time-eq0.false c.then-time-free.either) (c.at.ensures ∙ ap out_of_range (omega arith)));
+      same_size = size_kept told;
+    }
