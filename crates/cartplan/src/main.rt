@@ -3,7 +3,7 @@
 
 mod site_text;
 
-use site_text::{print_floor, print_tape};
+use site_text::{FloorText, TapeText};
 use sitefile::SiteHead;
 use std::process::ExitCode;
 use std::{env, fs};
@@ -30,73 +30,25 @@ prints
   10 - 10
   - 10 10";
 
-// What an entry of a table holds before a file is read into it.
-const EMPTY_PLACE: Place = Place {
-    x: 0,
-    y: 0,
-    first: 0,
-    ways: 0,
-    entry_first: 0,
-    entries: 0,
-};
-
-const EMPTY_LANE: Lane = Lane {
-    from: 0,
-    to: 0,
-    floor: LaneCost {
-        crossings: 0,
-        milliseconds: 1,
-    },
-    state: LaneState::Closed,
-    entering: 0,
-    slot: 0,
-};
-
-// What the arguments ask for.
-#[derive(Drop)]
-enum Request {
-    Check(Vec<String>),
-    Help,
-    Unknown,
-}
-
-// How a request ended that met no error of the system.
-#[derive(Clone, Copy)]
-enum Outcome {
-    Done,
-    Refused,
-}
-
-fn read_request(rt: &HostRuntime) -> anyhow::Result<Request> {
-    let mut words = env::args(rt)?;
-    let _program = words.next();
-    let Some(command) = words.next() else {
-        return Ok(Request::Unknown);
-    };
-    let mut sites = Vec::new(rt.alloc());
-    for word in words {
-        sites.push(word)?;
-    }
-    match command.as_str() {
-        "check" if !sites.is_empty() => Ok(Request::Check(sites)),
-        "help" if sites.is_empty() => Ok(Request::Help),
-        _ => Ok(Request::Unknown),
-    }
-}
-
-fn check(rt: &HostRuntime, path: &str) -> anyhow::Result<Outcome> {
+// Prints what a file describes, or what is wrong with it.
+fn check(rt: &HostRuntime, path: &str) -> anyhow::Result<ExitCode> {
     let heap = rt.alloc();
     let file = match fs::read(rt, path) {
         Ok(file) => file,
         Err(error) => {
             eprintln!(rt; "cartplan: {path}: {error}")?;
-            return Ok(Outcome::Refused);
+            return Ok(ExitCode::FAILURE);
         }
     };
     let most_cells = (LONGEST_SIDE * LONGEST_SIDE) as usize;
+    let no_cost = LaneCost {
+        crossings: 0,
+        milliseconds: 1,
+    };
+    let no_lane = Lane::new(0, 0, no_cost, LaneState::Closed);
     let mut cells = vec![in heap; Cell::Closed; most_cells]?;
-    let mut places = vec![in heap; EMPTY_PLACE; MOST_PLACES as usize]?;
-    let mut lanes = vec![in heap; EMPTY_LANE; MOST_LANES as usize]?;
+    let mut places = vec![in heap; Place::at(0, 0); MOST_PLACES as usize]?;
+    let mut lanes = vec![in heap; no_lane; MOST_LANES as usize]?;
     match sitefile::load(
         file.as_slice(),
         cells.as_mut_slice(),
@@ -104,47 +56,52 @@ fn check(rt: &HostRuntime, path: &str) -> anyhow::Result<Outcome> {
         lanes.as_mut_slice(),
     ) {
         Ok(SiteHead::Floor(head)) => {
-            print_floor(rt, head, cells.as_slice())?;
-            Ok(Outcome::Done)
+            let floor = FloorText {
+                head,
+                cells: cells.as_slice(),
+            };
+            println!(rt; "{floor}")?;
+            Ok(ExitCode::SUCCESS)
         }
         Ok(SiteHead::Tape(head)) => {
-            print_tape(rt, head, places.as_slice(), lanes.as_slice())?;
-            Ok(Outcome::Done)
+            let tape = TapeText {
+                head,
+                places: places.as_slice(),
+                lanes: lanes.as_slice(),
+            };
+            println!(rt; "{tape}")?;
+            Ok(ExitCode::SUCCESS)
         }
         Err(fault) => {
             println!(rt; "{fault}")?;
-            Ok(Outcome::Refused)
+            Ok(ExitCode::FAILURE)
         }
     }
 }
 
-fn check_all(rt: &HostRuntime, paths: &Vec<String>) -> anyhow::Result<Outcome> {
-    let mut outcome = Outcome::Done;
-    for path in paths.iter() {
-        if let Outcome::Refused = check(rt, path.as_str())? {
-            outcome = Outcome::Refused;
+fn check_all(rt: &HostRuntime, paths: &[String]) -> anyhow::Result<ExitCode> {
+    let mut status = ExitCode::SUCCESS;
+    for path in paths {
+        if check(rt, path.as_str())? != ExitCode::SUCCESS {
+            status = ExitCode::FAILURE;
         }
     }
-    Ok(outcome)
-}
-
-fn serve(rt: &HostRuntime) -> anyhow::Result<Outcome> {
-    match read_request(rt)? {
-        Request::Check(sites) => check_all(rt, &sites),
-        Request::Help => {
-            println!(rt; "{HELP}")?;
-            Ok(Outcome::Done)
-        }
-        Request::Unknown => {
-            eprintln!(rt; "{HELP}")?;
-            Ok(Outcome::Refused)
-        }
-    }
+    Ok(status)
 }
 
 fn main(rt: HostRuntime) -> anyhow::Result<ExitCode> {
-    match serve(&rt)? {
-        Outcome::Done => Ok(ExitCode::SUCCESS),
-        Outcome::Refused => Ok(ExitCode::FAILURE),
+    let words: Vec<String> = env::args(&rt)?.skip(1).collect(rt.alloc())?;
+    match words.as_slice() {
+        [command, paths @ ..] if command.as_str() == "check" && !paths.is_empty() => {
+            check_all(&rt, paths)
+        }
+        [command] if command.as_str() == "help" => {
+            println!(&rt; "{HELP}")?;
+            Ok(ExitCode::SUCCESS)
+        }
+        _ => {
+            eprintln!(&rt; "{HELP}")?;
+            Ok(ExitCode::FAILURE)
+        }
     }
 }

@@ -1,49 +1,83 @@
 // A site as text: a line for its head, then a line a row, or a line a place and a line a lane.
-use std::alloc::{AllocError, Global};
+use std::fmt;
 use tables::{Cell, FloorHead, Lane, Place, TapeHead};
 
 // The cells of a row, blanks between.
-fn row_text(heap: Global, cells: &[Cell]) -> Result<String, AllocError> {
-    let mut text = String::new(heap);
-    for (i, cell) in cells.iter().enumerate() {
-        if i > 0 {
-            text.push(' ')?;
+#[derive(Clone, Copy)]
+struct Row<'a> {
+    cells: &'a [Cell],
+}
+
+impl fmt::Display for Row<'_> {
+    fn fmt<W: fmt::Write>(&self, f: &mut fmt::Formatter<W>) -> fmt::Result {
+        let [first, rest @ ..] = self.cells else {
+            return Ok(());
+        };
+        write!(f, "{first}")?;
+        for cell in rest {
+            write!(f, " {cell}")?;
         }
-        let shown = cell.to_string(heap)?;
-        text.push_str(shown.as_str())?;
+        Ok(())
     }
-    Ok(text)
 }
 
-pub fn print_floor(rt: &HostRuntime, head: FloorHead, table: &[Cell]) -> anyhow::Result<()> {
-    println!(rt; "{head}")?;
-    // `chunks` asks for a width above 0; a head that was read has one.
-    let width = head.columns.max(1) as usize;
-    for row in table.chunks(width).take(head.rows as usize) {
-        let text = row_text(rt.alloc(), row)?;
-        println!(rt; "{text}")?;
-    }
-    Ok(())
+#[derive(Clone, Copy)]
+pub struct FloorText<'a> {
+    pub head: FloorHead,
+    pub cells: &'a [Cell],
 }
 
-pub fn print_tape(
-    rt: &HostRuntime,
-    head: TapeHead,
-    places: &[Place],
-    lanes: &[Lane],
-) -> anyhow::Result<()> {
-    println!(rt; "{head}")?;
-    for (number, place) in places.iter().take(head.places as usize).enumerate() {
-        let x = place.x;
-        let y = place.y;
-        println!(rt; "{number}: {x} {y}")?;
+impl fmt::Display for FloorText<'_> {
+    fn fmt<W: fmt::Write>(&self, f: &mut fmt::Formatter<W>) -> fmt::Result {
+        let head = self.head;
+        let rows = self.head.rows as usize;
+        // `chunks` asks for a width above 0; a head that was read has one.
+        let width = self.head.columns.max(1) as usize;
+        write!(f, "{head}")?;
+        for cells in self.cells.chunks(width).take(rows) {
+            let row = Row { cells };
+            write!(f, "\n{row}")?;
+        }
+        Ok(())
     }
-    for (number, lane) in lanes.iter().take(head.lanes as usize).enumerate() {
-        let from = lane.from;
-        let to = lane.to;
-        let floor = lane.floor;
-        let state = lane.state;
-        println!(rt; "{number}: {from} {to} {floor} {state}")?;
+}
+
+#[derive(Clone, Copy)]
+pub struct TapeText<'a> {
+    pub head: TapeHead,
+    pub places: &'a [Place],
+    pub lanes: &'a [Lane],
+}
+
+impl TapeText<'_> {
+    fn write_places<W: fmt::Write>(&self, f: &mut fmt::Formatter<W>) -> fmt::Result {
+        let count = self.head.places as usize;
+        for (number, place) in self.places.iter().take(count).enumerate() {
+            let x = place.x;
+            let y = place.y;
+            write!(f, "\n{number}: {x} {y}")?;
+        }
+        Ok(())
     }
-    Ok(())
+
+    fn write_lanes<W: fmt::Write>(&self, f: &mut fmt::Formatter<W>) -> fmt::Result {
+        let count = self.head.lanes as usize;
+        for (number, lane) in self.lanes.iter().take(count).enumerate() {
+            let from = lane.from;
+            let to = lane.to;
+            let floor = lane.floor;
+            let state = lane.state;
+            write!(f, "\n{number}: {from} {to} {floor} {state}")?;
+        }
+        Ok(())
+    }
+}
+
+impl fmt::Display for TapeText<'_> {
+    fn fmt<W: fmt::Write>(&self, f: &mut fmt::Formatter<W>) -> fmt::Result {
+        let head = self.head;
+        write!(f, "{head}")?;
+        self.write_places(f)?;
+        self.write_lanes(f)
+    }
 }
