@@ -1,4 +1,4 @@
-use crate::shared::is_fault;
+use crate::shared::told;
 use sitefile::Reader;
 use std::process::Abort;
 use std::test::Fail;
@@ -6,24 +6,16 @@ use std::test::Fail;
 // The bytes hold a number, and behind it the number 1.
 fn reads(rt: &impl Abort, bytes: &[u8], number: u32) -> Result<(), Fail> {
     let mut reader = Reader::new(bytes);
-    for expected in [number, 1] {
-        match reader.number() {
-            Ok(n) => assert_eq!(rt; n, expected),
-            Err(_) => return Err(Fail::new("a number is refused")),
-        }
-    }
+    assert_eq!(rt; reader.number(), Ok(number));
+    assert_eq!(rt; reader.number(), Ok(1));
     Ok(())
 }
 
 // The bytes hold no number, and the reader stays, so it says the same again.
 fn refuses(rt: &impl Abort, bytes: &[u8], cause: u8, byte: usize) -> Result<(), Fail> {
     let mut reader = Reader::new(bytes);
-    for _again in 0..2 {
-        match reader.number() {
-            Ok(_) => return Err(Fail::new("no number is read")),
-            Err(fault) => is_fault(rt, fault, cause, byte, 1)?,
-        }
-    }
+    assert_eq!(rt; reader.number().map_err(told), Err((cause, byte, 1)));
+    assert_eq!(rt; reader.number().map_err(told), Err((cause, byte, 1)));
     Ok(())
 }
 

@@ -28,17 +28,9 @@ pub const OLD_LANE: Lane = Lane {
     slot: 7,
 };
 
-pub fn is_fault(
-    rt: &impl Abort,
-    fault: Fault,
-    cause: u8,
-    byte: usize,
-    layer: u8,
-) -> Result<(), Fail> {
-    assert_eq!(rt; fault.cause.number(), cause);
-    assert_eq!(rt; fault.byte, byte);
-    assert_eq!(rt; fault.layer.number(), layer);
-    Ok(())
+// A fault as it is printed: cause, byte and layer.
+pub fn told(fault: Fault) -> (u8, usize, u8) {
+    (fault.cause.number(), fault.byte, fault.layer.number())
 }
 
 // A load into nine cells, three places and three lanes is refused and leaves them as they were.
@@ -46,26 +38,18 @@ pub fn faults(rt: &impl Abort, file: &[u8], cause: u8, byte: usize, layer: u8) -
     let mut cells = [OLD_CELL; 9];
     let mut places = [OLD_PLACE; 3];
     let mut lanes = [OLD_LANE; 3];
-    match load(file, &mut cells, &mut places, &mut lanes) {
-        Ok(_) => return Err(Fail::new("a faulty file is read")),
-        Err(fault) => is_fault(rt, fault, cause, byte, layer)?,
-    }
-    for cell in cells {
-        assert_eq!(rt; cell, OLD_CELL);
-    }
-    for place in places {
-        assert_eq!(rt; place, OLD_PLACE);
-    }
-    for lane in lanes {
-        assert_eq!(rt; lane, OLD_LANE);
-    }
+    let loaded = load(file, &mut cells, &mut places, &mut lanes);
+    assert_eq!(rt; loaded.map_err(told), Err((cause, byte, layer)));
+    assert_eq!(rt; cells, [OLD_CELL; 9]);
+    assert_eq!(rt; places, [OLD_PLACE; 3]);
+    assert_eq!(rt; lanes, [OLD_LANE; 3]);
     Ok(())
 }
 
 // Every front of a lawful file lacks the byte that would come next.
 pub fn cut_at_every_length(rt: &impl Abort, file: &[u8]) -> Result<(), Fail> {
     for length in 0..file.len() {
-        faults(rt, &file[0..length], 21, length, 1)?;
+        faults(rt, &file[..length], 21, length, 1)?;
     }
     Ok(())
 }

@@ -1,8 +1,8 @@
-use crate::shared::{OLD_LANE, OLD_PLACE, cut_at_every_length, faults, is_fault};
+use crate::shared::{OLD_LANE, OLD_PLACE, cut_at_every_length, faults, told};
 use sitefile::{SiteHead, load};
 use std::alloc::Global;
 use std::test::Fail;
-use tables::{Lane, LaneCost, LaneState, TapeHead};
+use tables::{Lane, LaneCost, LaneState, Place, TapeHead};
 
 // Three places in a row, 1,000 mm apart: lanes 0 to 1, 0 to 2 and 1 to 2. The second has a crossing.
 const SMALL: [u8; 38] = [
@@ -56,33 +56,19 @@ fn a_file_cut_at_every_length(rt: HostRuntime) -> Result<(), Fail> {
 fn a_small_tape_and_the_entries_after_it(rt: HostRuntime) -> Result<(), Fail> {
     let mut places = [OLD_PLACE; 4];
     let mut lanes = [OLD_LANE; 4];
-    match load(&SMALL, &mut [], &mut places, &mut lanes) {
-        Ok(head) => assert_eq!(rt;
-            head,
-            SiteHead::Tape(TapeHead {
-                places: 3,
-                lanes: 3,
-            })
-        ),
-        Err(_) => return Err(Fail::new("the small tape is refused")),
-    }
-    assert_eq!(rt; places[2].x, 2_000);
-    assert_eq!(rt; places[2].y, 0);
-    assert_eq!(rt; places[2].first, 0);
+    let head = TapeHead {
+        places: 3,
+        lanes: 3,
+    };
+    let loaded = load(&SMALL, &mut [], &mut places, &mut lanes);
+    assert_eq!(rt; loaded, Ok(SiteHead::Tape(head)));
+    assert_eq!(rt; places[2], Place::at(2_000, 0));
     assert_eq!(rt; places[3], OLD_PLACE);
     let dear = LaneCost {
         crossings: 1,
         milliseconds: 2_000,
     };
-    let lane = Lane {
-        from: 0,
-        to: 2,
-        floor: dear,
-        state: LaneState::Open(dear),
-        entering: 0,
-        slot: 0,
-    };
-    assert_eq!(rt; lanes[1], lane);
+    assert_eq!(rt; lanes[1], Lane::new(0, 2, dear, LaneState::Open(dear)));
     assert_eq!(rt; lanes[3], OLD_LANE);
     Ok(())
 }
@@ -91,18 +77,9 @@ fn a_small_tape_and_the_entries_after_it(rt: HostRuntime) -> Result<(), Fail> {
 #[test]
 fn the_farthest_place(rt: HostRuntime) -> Result<(), Fail> {
     let mut places = [OLD_PLACE; 1];
-    if load(
-        &[0x54, 1, 0, 0xe0, 0xd4, 0x03, 0xdf, 0xd4, 0x03],
-        &mut [],
-        &mut places,
-        &mut [],
-    )
-    .is_err()
-    {
-        return Err(Fail::new("the farthest place is refused"));
-    }
-    assert_eq!(rt; places[0].x, 30_000);
-    assert_eq!(rt; places[0].y, -30_000);
+    let file = [0x54, 1, 0, 0xe0, 0xd4, 0x03, 0xdf, 0xd4, 0x03];
+    assert!(rt; load(&file, &mut [], &mut places, &mut []).is_ok());
+    assert_eq!(rt; places[0], Place::at(30_000, -30_000));
     Ok(())
 }
 
@@ -121,12 +98,9 @@ fn sixty_four_lanes_from_one_place(rt: HostRuntime) -> Result<(), Fail> {
     let mut places = [OLD_PLACE; 1];
     let mut lanes = [OLD_LANE; 65];
     let most = loops(heap, 64)?;
-    if load(most.as_slice(), &mut [], &mut places, &mut lanes).is_err() {
-        return Err(Fail::new("64 lanes are refused"));
-    }
+    assert!(rt; load(most.as_slice(), &mut [], &mut places, &mut lanes).is_ok());
     let more = loops(heap, 65)?;
-    match load(more.as_slice(), &mut [], &mut places, &mut lanes) {
-        Ok(_) => Err(Fail::new("65 lanes are read")),
-        Err(fault) => is_fault(&rt, fault, 25, 325, 2),
-    }
+    let loaded = load(more.as_slice(), &mut [], &mut places, &mut lanes);
+    assert_eq!(rt; loaded.map_err(told), Err((25, 325, 2)));
+    Ok(())
 }
