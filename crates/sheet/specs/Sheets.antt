@@ -5,8 +5,9 @@ use Rattle.cost.specs.declared.lengths.Length.TheVariants.{Infinite}
 use Rattle.cost.specs.Costs.{Kind, Laws}
 use Rattle.cost.specs.Lengths.{AtMost, Within, length_le, sum, lesser}
 use Rattle.cost.proofs.LengthLemmas.{at_most_trans, at_most_of_not}
+use Rattle.queue.specs.declared.Queue.{Queue}
 use Rattle.queue.specs.Order.{Ranks}
-use Rattle.queue.specs.Heap.{entries, In, Queue}
+use Rattle.queue.specs.Queues.{Queued, Ordered, Same}
 use Rattle.sheet.specs.declared.Entry.{Entry}
 
 module _ {C : Type 0} where
@@ -29,10 +30,6 @@ module _ {C : Type 0} where
   abbrev pub with_estimate : Entry C → Length C → Entry C
   with_estimate e v = record { estimate = v; distance = e.distance; link = e.link; mark = e.mark }
 
-  -- the places that have an entry
-  abbrev pub IsListed : List (Entry C) → ℕ → Type 0
-  IsListed sheet p = p < length sheet
-
   -- only the estimates of the first n entries may differ
   pub record Kept (n : ℕ) (before after : List (Entry C)) : Type 0 where
     pub long : length after ≡ length before
@@ -44,41 +41,69 @@ module _ {C : Type 0} where
     pub estimates : (s : ℕ) → s < n → estimate_of after s ≡ e s
     pub kept : Kept n before after
 
+  -- the place has an entry, from which a key can be worked out
+  pub record Keyed (reads : Entry C → Type 0) (sheet : List (Entry C)) (p : ℕ) : Type 0 where
+    pub listed : p < length sheet
+    pub readable : reads (slice_index_or sheet p blank)
+
+  -- places compared by a key of their entries
+  abbrev pub by : Kind C → (Entry C → Length C) → List (Entry C) → ℕ → ℕ → Bool
+  by K key sheet a b = length_le K (key (slice_index_or sheet a blank)) (key (slice_index_or sheet b blank))
+
+  -- the keys: the estimate, which every entry has, and the sum
+  abbrev pub HasEstimate : Kind C → Entry C → Type 0
+  HasEstimate K e = Unit {0}
+
+  abbrev pub estimate_key : Kind C → Entry C → Length C
+  estimate_key K e = e.estimate
+
+  pub record HasSum (K : Kind C) (e : Entry C) : Type 0 where
+    pub distance : Within K e.distance
+    pub estimate : Within K e.estimate
+
+  abbrev pub sum_key : Kind C → Entry C → Length C
+  sum_key K e = sum K e.distance e.estimate
+
 module _ {C : Type 0} (K : Kind C) (sheet : List (Entry C)) where
   abbrev pub sum_of : ℕ → Length C
   sum_of p = sum K (distance_of sheet p) (estimate_of sheet p)
 
   abbrev pub by_sum : ℕ → ℕ → Bool
-  by_sum a b = length_le K (sum_of a) (sum_of b)
+  by_sum = by K (sum_key K) sheet
 
   abbrev pub by_estimate : ℕ → ℕ → Bool
-  by_estimate a b = length_le K (estimate_of sheet a) (estimate_of sheet b)
+  by_estimate = by K (estimate_key K) sheet
+
+  -- the places that have an entry
+  abbrev pub IsListed : ℕ → Type 0
+  IsListed = Keyed (HasEstimate K) sheet
 
   -- the places whose sum can be worked out
-  pub record Summable (p : ℕ) : Type 0 where
-    pub listed : p < length sheet
-    pub distance : Within K (distance_of sheet p)
-    pub estimate : Within K (estimate_of sheet p)
+  abbrev pub Summable : ℕ → Type 0
+  Summable = Keyed (HasSum K) sheet
 
--- places compared by any length that is kept for each
-pub ranks_by : {C : Type 0} {K : Kind C} → Laws K → (key : ℕ → Length C) → Ranks (λ a b. length_le K (key a) (key b))
-ranks_by {K = K} laws key = record {
-  total = λ a b h. let p : AtMost K (key b) (key a) = at_most_of_not laws h in p.holds;
-  chain = λ a b c h k. let p : AtMost K (key a) (key b) = record { holds = h } in let q : AtMost K (key b) (key c) = record { holds = k } in (at_most_trans laws p q).holds;
-}
+-- places compared by any key of their entries
+pub ranks_by : {C : Type 0} {K : Kind C} → Laws K → (key : Entry C → Length C) (sheet : List (Entry C)) → Ranks (by K key sheet)
+ranks_by {K = K} laws key sheet =
+    let at : ℕ → Length _ = λ p. key (slice_index_or sheet p blank) in
+    record {
+      total = λ a b h. let p : AtMost K (at b) (at a) = at_most_of_not laws h in p.holds;
+      chain = λ a b c h k. let p : AtMost K (at a) (at b) = record { holds = h } in let q : AtMost K (at b) (at c) = record { holds = k } in (at_most_trans laws p q).holds;
+    }
 
 -- the entry with a distance by way of another place
 abbrev pub reached : {C : Type 0} → Entry C → Length C → ℕ → Entry C
 reached e d from = record { estimate = e.estimate; distance = d; link = from; mark = e.mark }
 
 -- A place is offered a distance by way of another, and takes it if it is less than its own; it is queued then unless its estimate is infinite.
-pub record Relaxed {C : Type 0} (K : Kind C) (sheet after : List (Entry C)) (q r : List ℕ) (n k from place : ℕ) (d : Length C) : Type 0 where
+pub record Relaxed {C : Type 0} (K : Kind C) (sheet after : List (Entry C)) (q r : Queue) (from place : ℕ) (d : Length C) : Type 0 where
   pub others : (y : ℕ) → (y ≢ place) → slice_index_or after y blank ≡ slice_index_or sheet y blank
   pub estimate : estimate_of after place ≡ estimate_of sheet place
   pub mark : mark_of after place ≡ mark_of sheet place
   pub distance : distance_of after place ≡ lesser K (distance_of sheet place) d
   pub link : (slice_index_or after place blank ≡ slice_index_or sheet place blank) ⊎ ((distance_of after place ≡ d) × (link_of after place ≡ from))
-  pub queue : Queue (Summable K after) (by_sum K after) r k
-  pub old : (y : ℕ) → In (entries q) n y → In (entries r) k y
-  pub only : (y : ℕ) → In (entries r) k y → In (entries q) n y ⊎ ((y ≡ place) × (length_le K (distance_of sheet place) (distance_of after place) ≡ false))
-  pub new : (slice_index_or after place blank ≡ slice_index_or sheet place blank) ⊎ ((estimate_of after place ≡ Infinite) ⊎ In (entries r) k place)
+  pub same : Same q r
+  pub ordered : Ordered (Summable K after) (by_sum K after) r
+  pub old : (y : ℕ) → Queued q y → Queued r y
+  pub only : (y : ℕ) → Queued r y → Queued q y ⊎ ((y ≡ place) × (length_le K (distance_of sheet place) (distance_of after place) ≡ false))
+  pub new : (slice_index_or after place blank ≡ slice_index_or sheet place blank) ⊎ ((estimate_of after place ≡ Infinite) ⊎ Queued r place)
