@@ -1,5 +1,5 @@
 -- One more place is opened; and the two ends. Assumes nothing.
-use Rattle.std.proofs.Common.{◌≡◌, ℕ, zero, suc, ◌+◌, ◌-◌, ◌<◌, Bool, true, false, cond, ◌⊎◌, List, length, sym, refl, ap, ◌∙◌, subst, inl, inr, ⊎_elim, true≢false, not-suc-le-zero, arith}
+use Rattle.std.proofs.Common.{◌≡◌, ℕ, zero, suc, ◌+◌, ◌<◌, Bool, true, false, cond, ◌⊎◌, List, length, sym, refl, ap, ◌∙◌, subst, inl, inr, ⊎_elim, true≢false, not-suc-le-zero, arith}
 use Rattle.std.proofs.lemmas.Bool.{cases_eq, cases_Bool}
 use Rattle.cost.specs.Costs.{Kind, Laws, Positive}
 use Rattle.cost.specs.Lengths.{AtMost, length_le, sum, lesser}
@@ -18,7 +18,8 @@ use Rattle.routes.proofs.Links.{links_turn}
 use Rattle.routes.proofs.Outcomes.{opening_turn, outcome_found, outcome_none}
 use Rattle.sheet.specs.declared.Entry.{Entry}
 use Rattle.sheet.specs.Sheets.{distance_of, link_of, mark_of, sum_of, by_sum, Summable}
-use Rattle.queue.specs.Heap.{entries, In, Popped}
+use Rattle.queue.specs.declared.Queue.{Queue}
+use Rattle.queue.specs.Queues.{Queued, Popped}
 use Rattle.search.specs.Exploring.{Improves, Swept, mark_place, Exploring, Explored}
 use Rattle.search.proofs.Marks.{mark_distance, mark_estimate, mark_link, mark_here, mark_other}
 use Rattle.search.proofs.Ceilings.{found_within}
@@ -52,12 +53,12 @@ count_none p zero h = refl
 count_none p (suc n) h = let r = count_none p n (λ y l. h y (omega arith)) in omega (arith, none (h n (omega arith)))
 
 module _ {C : Type 0} {K : Kind C} (laws : Laws K) (positive : Positive K) {m : Meaning C} (lawful : Lawful K m) (start target : ℕ) (first : start < m.places) (end : target < m.places)
-    (e : ℕ → Length C) (sound : Sound K m target e) (sheet : List (Entry C)) (q : List ℕ) (n opened : ℕ) (inv : Exploring K m start target e sheet q n opened) (long : length sheet ≡ m.places) where
+    (e : ℕ → Length C) (sound : Sound K m target e) (sheet : List (Entry C)) (q : Queue) (opened : ℕ) (inv : Exploring K m start target e sheet q opened) (long : length sheet ≡ m.places) where
   sum_e : (y : ℕ) → sum K (distance_of sheet y) (e y) ≡ sum_of K sheet y
   sum_e y = ap (sum K (distance_of sheet y)) (sym (inv.estimates y))
 
   -- no place is queued
-  pub explored_none : n ≡ 0 → Explored K m start target e sheet opened
+  pub explored_none : q.len ≡ 0 → Explored K m start target e sheet opened
   explored_none empty =
       let nothing : (y : ℕ) → y < m.places → mark_of sheet y ≡ false → sum K (distance_of sheet y) (e y) ≡ Infinite =
       λ y l o. ⊎_elim (λ far. sum_e y ∙ far) (λ queued. absurd (let z = queued.1 in omega arith)) (inv.waiting y l o) in
@@ -72,7 +73,7 @@ module _ {C : Type 0} {K : Kind C} (laws : Laws K) (positive : Positive K) {m : 
         counted = inv.counted;
       }
 
-  module _ (r : List ℕ) (x : ℕ) (popped : Popped (Summable K sheet) (by_sum K sheet) q r n x) where
+  module _ (r : Queue) (x : ℕ) (popped : Popped (Summable K sheet) (by_sum K sheet) q r x) where
     pub place : x < m.places
     place = omega (arith, long, popped.covered.listed)
 
@@ -129,7 +130,7 @@ module _ {C : Type 0} {K : Kind C} (laws : Laws K) (positive : Positive K) {m : 
       pub improving : Improves K m sheet x
       improving = λ u f way above. found_within laws positive lawful start first (distance_of sheet) (mark_of sheet) (link_of sheet) inv.searching inv.linked x place u f way above
 
-      module _ (after : List (Entry C)) (t : List ℕ) (k : ℕ) (swept : Swept K m x (m.ways x) (mark_place sheet x) after r t (n - 1) k) (long' : length after ≡ m.places) where
+      module _ (after : List (Entry C)) (t : Queue) (swept : Swept K m x (m.ways x) (mark_place sheet x) after r t) (long' : length after ≡ m.places) where
         listed : x < length sheet
         listed = popped.covered.listed
 
@@ -173,15 +174,15 @@ module _ {C : Type 0} {K : Kind C} (laws : Laws K) (positive : Positive K) {m : 
             absurd (true≢false (sym (at_most_of_eq laws (was ∙ sym now)).holds ∙ fell)))
             (λ h. h) (cases_Bool (mark_of after y))
 
-        queued_open : (y : ℕ) → In (entries t) k y → mark_of after y ≡ false
+        queued_open : (y : ℕ) → Queued t y → mark_of after y ≡ false
         queued_open y queued = ⊎_elim
-            (λ was. mark_y y (λ same. popped.gone (subst (In (entries r) (n - 1)) same was)) ∙ inv.unopened y (popped.only y was))
+            (λ was. mark_y y (λ same. popped.gone (subst (Queued r) same was)) ∙ inv.unopened y (popped.only y was))
             (λ fell. lowered_open y
-            (let z = (swept.queue.covered queued.0 queued.1).listed in subst (λ v. v < m.places) queued.2 (omega (arith, long', z)))
+            (let z = (swept.ordered.covered queued.0 queued.1).listed in subst (λ v. v < m.places) queued.2 (omega (arith, long', z)))
             (sym (ap (λ d. length_le K d (distance_of after y)) (mark_distance sheet x listed y)) ∙ fell))
             (swept.only y queued)
 
-        still_waiting : (y : ℕ) → y < m.places → mark_of after y ≡ false → (sum_of K after y ≡ Infinite) ⊎ In (entries t) k y
+        still_waiting : (y : ℕ) → y < m.places → mark_of after y ≡ false → (sum_of K after y ≡ Infinite) ⊎ Queued t y
         still_waiting y l o =
             let away : y ≡ x → ⊥ = λ same. true≢false (sym (subst (λ z. mark_of after z ≡ true) (sym same) mark_x) ∙ o) in
             ⊎_elim
@@ -192,13 +193,13 @@ module _ {C : Type 0} {K : Kind C} (laws : Laws K) (positive : Positive K) {m : 
             (λ now. ⊎_elim (λ far. inl (ap (sum K (distance_of after y)) far ∙ sum_infinite laws (distance_of after y))) (λ queued. inr queued) now)
             (swept.new y)
 
-        pub exploring_turn : Exploring K m start target e after t k (opened + 1)
+        pub exploring_turn : Exploring K m start target e after t (opened + 1)
         exploring_turn = record {
           searching = searched;
           linked = links_turn laws lawful start first (distance_of sheet) (distance_of after) (mark_of sheet) (mark_of after) (link_of sheet) (link_of after) x place final inv.searching expands inv.linked relinks;
           opening = opening_turn laws lawful start target first end e sound (distance_of sheet) (distance_of after) (mark_of sheet) (mark_of after) x finite.0 inv.searching least finite.1 other expands inv.opening;
           estimates = λ s. swept.estimate s ∙ mark_estimate sheet x listed s ∙ inv.estimates s;
-          queue = swept.queue;
+          ordered = swept.ordered;
           unopened = queued_open;
           waiting = still_waiting;
           counted = omega (arith, inv.counted, count_more (mark_of sheet) (mark_of after) m.places x place unclosed mark_x mark_y);

@@ -7,6 +7,7 @@ use Rattle.cost.specs.Lengths.{Within, length_le, sum}
 use Rattle.routes.specs.Sites.{Meaning}
 use Rattle.sheet.specs.declared.Entry.{Entry}
 use Rattle.sheet.specs.Sheets.{blank, estimate_of, distance_of, link_of, mark_of, sum_of, by_sum, Summable}
+use Rattle.queue.specs.declared.Queue.{Queue}
 use Rattle.queue.proofs.Keys.{rekeyed}
 use Rattle.search.specs.Exploring.{Ready, Improves, with_mark, mark_place}
 
@@ -42,18 +43,20 @@ module _ {C : Type 0} (sheet : List (Entry C)) (p : ℕ) (listed : p < length sh
     mark_sum : (s : ℕ) → sum_of K (mark_place sheet p) s ≡ sum_of K sheet s
     mark_sum s = λ t. sum K (mark_distance s t) (mark_estimate s t)
 
-    pub mark_ready : (q : List ℕ) (n : ℕ) → Ready K m sheet q n → Ready K m (mark_place sheet p) q n
-    mark_ready q n ready = record {
+    pub mark_ready : (q : Queue) → Ready K m sheet q → Ready K m (mark_place sheet p) q
+    mark_ready q ready = record {
       long = length-set sheet p (with_mark (get_or sheet p blank)) ∙ ready.long;
       room = ready.room;
       estimates = λ s l. subst (Within K) (sym (mark_estimate s)) (ready.estimates s l);
-      queue = rekeyed (Summable K sheet) (Summable K (mark_place sheet p)) (by_sum K sheet) (by_sum K (mark_place sheet p)) q n
+      ordered = rekeyed (Summable K sheet) (Summable K (mark_place sheet p)) (by_sum K sheet) (by_sum K (mark_place sheet p)) q
           (λ x _ h. record {
             listed = omega (arith, length-set sheet p (with_mark (get_or sheet p blank)), h.listed);
-            distance = subst (Within K) (sym (mark_distance x)) h.distance;
-            estimate = subst (Within K) (sym (mark_estimate x)) h.estimate;
+            readable = record {
+              distance = subst (Within K) (sym (mark_distance x)) h.readable.distance;
+              estimate = subst (Within K) (sym (mark_estimate x)) h.readable.estimate;
+            };
           })
-          (λ x y _ _. (λ t. length_le K (mark_sum x t) (mark_sum y t))) ready.queue;
+          (λ x y _ _. (λ t. length_le K (mark_sum x t) (mark_sum y t))) ready.ordered;
     }
 
     pub mark_improves : (x : ℕ) → Improves K m sheet x → Improves K m (mark_place sheet p) x

@@ -11,11 +11,12 @@ use Rattle.cost.proofs.LengthLemmas.{infinite_not_finite, sum_infinite}
 use Rattle.routes.proofs.Search.{searching_start}
 use Rattle.sheet.specs.declared.Entry.{Entry}
 use Rattle.sheet.specs.Sheets.{estimate_of, distance_of, mark_of, sum_of, Relaxed}
-use Rattle.queue.specs.Heap.{entries, In}
+use Rattle.queue.specs.declared.Queue.{Queue}
+use Rattle.queue.specs.Queues.{Queued}
 use Rattle.search.specs.Exploring.{Fresh, Exploring}
 use Rattle.search.proofs.Exploration.{count_none}
 
-module _ {C : Type 0} {K : Kind C} (sheet after : List (Entry C)) (q r : List ℕ) (n k from place : ℕ) (d : Length C) (relaxed : Relaxed K sheet after q r n k from place d) where
+module _ {C : Type 0} {K : Kind C} (sheet after : List (Entry C)) (q r : Queue) (from place : ℕ) (d : Length C) (relaxed : Relaxed K sheet after q r from place d) where
   by : (P : ℕ → Type 0) → P place → ((s : ℕ) → (s ≡ place → ⊥) → P s) → (s : ℕ) → P s
   by P here other s = ⊎_elim (λ (e : s ≡ place). subst P (sym e) here) (λ (e : s ≡ place → ⊥). other s e) (cases_eq s place)
 
@@ -29,9 +30,9 @@ module _ {C : Type 0} {K : Kind C} (sheet after : List (Entry C)) (q r : List �
   relaxed_estimates = λ t. λ s. relaxed_estimate s t
 
 module _ {C : Type 0} {K : Kind C} (laws : Laws K) {m : Meaning C} (lawful : Lawful K m) (start target : ℕ) (first : start < m.places)
-    (sheet after : List (Entry C)) (q r : List ℕ) (k : ℕ) (fresh : Fresh sheet) (relaxed : Relaxed K sheet after q r 0 k start start (origin K)) where
+    (sheet after : List (Entry C)) (q r : Queue) (fresh : Fresh sheet) (relaxed : Relaxed K sheet after q r start start (origin K)) where
   marks : (s : ℕ) → mark_of after s ≡ false
-  marks s = relaxed_marks sheet after q r 0 k start start (origin K) relaxed s ∙ fresh.mark s
+  marks s = relaxed_marks sheet after q r start start (origin K) relaxed s ∙ fresh.mark s
 
   at : distance_of after start ≡ origin K
   at = relaxed.distance ∙ ap (λ d. lesser K d (origin K)) (fresh.distance start)
@@ -45,14 +46,14 @@ module _ {C : Type 0} {K : Kind C} (laws : Laws K) {m : Meaning C} (lawful : Law
   unlinked : {A : Type 0} (s : ℕ) (c : C) → (s ≡ start → ⊥) → distance_of after s ≡ Finite c → A
   unlinked s c away is = absurd (infinite_not_finite (sym (off s away) ∙ is))
 
-  wait : (y : ℕ) → (y ≡ start) ⊎ (y ≡ start → ⊥) → (sum_of K after y ≡ Infinite) ⊎ In (entries r) k y
+  wait : (y : ℕ) → (y ≡ start) ⊎ (y ≡ start → ⊥) → (sum_of K after y ≡ Infinite) ⊎ Queued r y
   wait y (inr away) = inl (ap (λ d. sum K d (estimate_of after y)) (off y away))
-  wait y (inl same) = subst (λ z. (sum_of K after z ≡ Infinite) ⊎ In (entries r) k z) (sym same) (⊎_elim
+  wait y (inl same) = subst (λ z. (sum_of K after z ≡ Infinite) ⊎ Queued r z) (sym same) (⊎_elim
       (λ stays. absurd (infinite_not_finite (sym (ap (λ (t : Entry C). t.distance) stays ∙ fresh.distance start) ∙ at)))
       (λ now. ⊎_elim (λ far. inl (ap (sum K (distance_of after start)) far ∙ sum_infinite laws (distance_of after start))) (λ queued. inr queued) now)
       relaxed.new)
 
-  pub exploring_start : Exploring K m start target (estimate_of after) after r k 0
+  pub exploring_start : Exploring K m start target (estimate_of after) after r 0
   exploring_start = record {
     searching = searching_start laws lawful start first (distance_of after) (mark_of after) at (λ s l away. off s away) (λ s l. marks s);
     linked = record {
@@ -66,7 +67,7 @@ module _ {C : Type 0} {K : Kind C} (laws : Laws K) {m : Meaning C} (lawful : Law
       finite = λ s l marked. unmarked s marked;
     };
     estimates = λ s. refl;
-    queue = relaxed.queue;
+    ordered = relaxed.ordered;
     unopened = λ y _. marks y;
     waiting = λ y l o. wait y (cases_eq y start);
     counted = sym (count_none (mark_of after) m.places (λ y l. marks y));

@@ -11,7 +11,8 @@ use Rattle.cost.proofs.LengthLemmas.{at_most_trans, at_most_antisym, at_most_of_
 use Rattle.sheet.specs.declared.Entry.{Entry}
 use Rattle.sheet.specs.Sheets.{blank, estimate_of, distance_of, link_of, mark_of, by_sum, Summable, Relaxed}
 use Rattle.std.proofs.lemmas.List.{take_more, get_or_read}
-use Rattle.queue.specs.Heap.{entries, In, Queue}
+use Rattle.queue.specs.declared.Queue.{Queue}
+use Rattle.queue.specs.Queues.{places, Queued, Ordered}
 use Rattle.queue.proofs.Keys.{room}
 use Rattle.site.specs.declared.Way.{Way as Exit}
 use Rattle.site.specs.Questions.{WayAt}
@@ -40,20 +41,21 @@ module _ {C : Type 0} {K : Kind C} (laws : Laws K) (m : Meaning C) (x : ℕ) whe
   below_lower : (a b c : Length C) → AtMost K c b → length_le K a b ≡ false → length_le K a c ≡ false
   below_lower a b c low h = ⊎_elim (λ t. absurd (true≢false (sym (let p : AtMost K a c = record { holds = t } in (at_most_trans laws p low).holds) ∙ h))) (λ f. f) (cases_Bool (length_le K a c))
 
-  pub swept_none : (sheet : List (Entry C)) (q : List ℕ) (n : ℕ) → Queue (Summable K sheet) (by_sum K sheet) q n → Swept K m x [] sheet sheet q q n n
-  swept_none sheet q n queue = record {
+  pub swept_none : (sheet : List (Entry C)) (q : Queue) → Ordered (Summable K sheet) (by_sum K sheet) q → Swept K m x [] sheet sheet q q
+  swept_none sheet q ordered = record {
     distance = λ s. sym (ap (lesser K (distance_of sheet s)) (sum_infinite laws (distance_of sheet x)) ∙ lesser_of_le laws (at_most_infinite laws (distance_of sheet s)));
     link = λ s. inl (refl, refl);
     estimate = λ s. refl;
     mark = λ s. refl;
-    queue = queue;
+    same = record { name = refl; long = refl };
+    ordered = ordered;
     old = λ y h. h;
     only = λ y h. inl h;
     new = λ y. inl refl;
   }
 
-  module _ (ws : List (ℕ × ℕ)) (u f : ℕ) (sheet mid after : List (Entry C)) (q r t : List ℕ) (n k l : ℕ)
-      (swept : Swept K m x ws sheet mid q r n k) (relaxed : Relaxed K mid after r t k l x u (sum K (distance_of sheet x) (m.state f))) where
+  module _ (ws : List (ℕ × ℕ)) (u f : ℕ) (sheet mid after : List (Entry C)) (q r t : Queue)
+      (swept : Swept K m x ws sheet mid q r) (relaxed : Relaxed K mid after r t x u (sum K (distance_of sheet x) (m.state f))) where
     abbrev d : Length C
     d = distance_of sheet x
 
@@ -114,7 +116,7 @@ module _ {C : Type 0} {K : Kind C} (laws : Laws K) (m : Meaning C) (x : ℕ) whe
         ⊎_elim (λ kept. inl (far ∙ kept.0, tie ∙ kept.1)) (λ now. inr (far ∙ now.0 ∙ sym (push_other s away), tie ∙ now.1)) (swept.link s)
 
     New : ℕ → Type 0
-    New y = (distance_of after y ≡ distance_of sheet y) ⊎ ((estimate_of after y ≡ Infinite) ⊎ In (entries t) l y)
+    New y = (distance_of after y ≡ distance_of sheet y) ⊎ ((estimate_of after y ≡ Infinite) ⊎ Queued t y)
 
     still_new : (y : ℕ) → get_or after y blank ≡ get_or mid y blank → New y
     unfolding New
@@ -127,7 +129,7 @@ module _ {C : Type 0} {K : Kind C} (laws : Laws K) (m : Meaning C) (x : ℕ) whe
     unfolding New
     new_here = ⊎_elim (λ stays. still_new u stays) (λ now. inr now) relaxed.new
 
-    pub swept_more : Swept K m x (ws ++ ((u, f) ∷ [])) sheet after q t n l
+    pub swept_more : Swept K m x (ws ++ ((u, f) ∷ [])) sheet after q t
     unfolding Link New
     swept_more = record {
       distance = by (λ s. distance_of after s ≡ lesser K (distance_of sheet s) (sum K d (least K (way_to K m s) more)))
@@ -136,7 +138,8 @@ module _ {C : Type 0} {K : Kind C} (laws : Laws K) (m : Meaning C) (x : ℕ) whe
       link = by Link link_here link_other;
       estimate = by (λ s. estimate_of after s ≡ estimate_of sheet s) (relaxed.estimate ∙ swept.estimate u) (λ s away. ap (λ (e : Entry C). e.estimate) (same s away) ∙ swept.estimate s);
       mark = by (λ s. mark_of after s ≡ mark_of sheet s) (relaxed.mark ∙ swept.mark u) (λ s away. ap (λ (e : Entry C). e.mark) (same s away) ∙ swept.mark s);
-      queue = relaxed.queue;
+      same = record { name = relaxed.same.name ∙ swept.same.name; long = relaxed.same.long ∙ swept.same.long };
+      ordered = relaxed.ordered;
       old = λ y h. relaxed.old y (swept.old y h);
       only = λ y h. ⊎_elim
           (λ was. ⊎_elim (λ first. inl first) (λ fell. inr (below_lower (distance_of sheet y) (distance_of mid y) (distance_of after y) (lower y) fell)) (swept.only y was))
@@ -173,11 +176,11 @@ module _ {C : Type 0} {K : Kind C} (laws : Laws K) {m : Meaning C} (lawful : Law
         subst (λ v. K.within v ≡ true) (laws.sum_commutative c K.zero ∙ laws.zero_neutral c) one;
   }
 
-  module _ (sheet mid : List (Entry C)) (q r : List ℕ) (n k : ℕ) (swept : Swept K m x (take i (m.ways x)) sheet mid q r n k) where
-    pub swept_turn : (after : List (Entry C)) (t : List ℕ) (l : ℕ) → Relaxed K mid after r t k l x w.end (sum K (distance_of sheet x) (m.state w.segment)) → Swept K m x (take (i + 1) (m.ways x)) sheet after q t n l
-    swept_turn after t l relaxed =
+  module _ (sheet mid : List (Entry C)) (q r : Queue) (swept : Swept K m x (take i (m.ways x)) sheet mid q r) where
+    pub swept_turn : (after : List (Entry C)) (t : Queue) → Relaxed K mid after r t x w.end (sum K (distance_of sheet x) (m.state w.segment)) → Swept K m x (take (i + 1) (m.ways x)) sheet after q t
+    swept_turn after t relaxed =
         let all : take (i + 1) (m.ways x) ≡ take i (m.ways x) ++ ((w.end, w.segment) ∷ []) = take_more (m.ways x) i (0, 0) (way_there m x i place w is) ∙ ap (λ e. take i (m.ways x) ++ (e ∷ [])) (way_is m x i place w is) in
-        subst (λ ws. Swept K m x ws sheet after q t n l) (sym all) (swept_more laws m x (take i (m.ways x)) w.end w.segment sheet mid after q r t n k l swept relaxed)
+        subst (λ ws. Swept K m x ws sheet after q t) (sym all) (swept_more laws m x (take i (m.ways x)) w.end w.segment sheet mid after q r t swept relaxed)
 
     pub mid_lower : (s : ℕ) → AtMost K (distance_of mid s) (distance_of sheet s)
     mid_lower s = subst (λ v. AtMost K v (distance_of sheet s)) (sym (swept.distance s)) (lesser_left laws (distance_of sheet s) (sum K (distance_of sheet x) (least K (way_to K m s) (take i (m.ways x)))))
@@ -189,7 +192,7 @@ module _ {C : Type 0} {K : Kind C} (laws : Laws K) {m : Meaning C} (lawful : Law
     next_estimate estimates = subst (Within K) (sym (swept.estimate w.end)) (estimates w.end end_place)
 
     -- the queue has room for every place
-    pub next_room : length mid ≡ m.places → m.places ≤ length r → (In (entries r) k w.end → ⊥) → k < length r
+    pub next_room : length mid ≡ m.places → m.places ≤ length q.places.now → (Queued r w.end → ⊥) → r.len < length r.places.now
     next_room long wide absent =
-        let less : k < m.places = room m.places k w.end (entries r) end_place absent swept.queue.apart (λ j h. omega (arith, long, (swept.queue.covered j h).listed)) in
-        omega arith
+        let less : r.len < m.places = room m.places r.len w.end (places r) end_place absent swept.ordered.apart (λ j h. omega (arith, long, (swept.ordered.covered j h).listed)) in
+        omega (arith, swept.same.long)

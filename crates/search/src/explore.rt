@@ -1,58 +1,49 @@
 // The search proper: places are opened, the least sum of distance and estimate first.
-ghost use Rattle.std.specs.Prelude.{◌≡◌, ℕ, ◌<◌, ◌≤◌, true, false, length};
+ghost use Rattle.std.specs.Prelude.{◌≡◌, ℕ, ◌<◌, ◌≤◌, true, false, length, MatchOption};
 ghost use Rattle.cost.specs.Lengths.{Within, length_le};
-ghost use Rattle.routes.specs.Sites.{Lawful};
 ghost use Rattle.routes.specs.Estimates.{Sound};
+ghost use Rattle.queue.specs.Queues.{Ordered, Popped};
 ghost use Rattle.sheet.specs.Sheets.{distance_of, estimate_of, sum_of, by_sum, Summable};
-ghost use Rattle.queue.specs.Heap.{Queue};
 ghost use Rattle.search.specs.Exploring.{Ready, Improves, Swept, mark_place, Fresh, Explored};
 
 use cost::{Cost, Length};
-use sheet::{BySum, Entry, relax};
-use site::{Site, cost_over};
+use queue::Queue;
+use sheet::{By, Entry, Sum, relax};
+use site::{Site, Ways, cost_over};
 
-// Offers the end of each way out of a place a distance through it. Returns how many places are queued then.
-fn expand<S: Site>(
-    site: &S,
-    sheet: &mut [Entry<S::Cost>],
-    queue: &mut [u16],
-    mut len: usize,
-    from: u16,
-) -> usize
-    requires lawful { Lawful S.Cost.Cost.kind (S.Site.meaning site.now) }
-    requires ready { Ready S.Cost.Cost.kind (S.Site.meaning site.now) sheet.old queue.old len }
+// Offers the end of each way out of a place a distance through it.
+fn expand<S: Site>(site: &S, sheet: &mut [Entry<S::Cost>], queue: &mut Queue<'_>, from: u16)
+    requires ready { Ready S.Cost.Cost.kind (S.Site.meaning site.now) sheet.old queue.old }
     requires place { from < (S.Site.meaning site.now).places }
     requires within { Within S.Cost.Cost.kind (distance_of sheet.old from) }
     requires improves { Improves S.Cost.Cost.kind (S.Site.meaning site.now) sheet.old from }
-    ensures { Swept S.Cost.Cost.kind (S.Site.meaning site.now) from ((S.Site.meaning site.now).ways from) sheet.old sheet.new queue.old queue.new len result }
+    ensures { Swept S.Cost.Cost.kind (S.Site.meaning site.now) from ((S.Site.meaning site.now).ways from) sheet.old sheet.new queue.old queue.new }
 {
     let distance = sheet[from as usize].distance;
-    let mut index = 0;
-    while let Some(way) = site.way(from, index) {
+    for way in Ways::of(site, from) {
         let cost = cost_over(site, way.segment);
-        len = relax(sheet, queue, len, way.end, distance.plus(cost), from);
-        index += 1;
+        relax(sheet, queue, way.end, distance.plus(cost), from);
     }
-    len
 }
 
 // Marks a place and expands it.
-fn open_place<S: Site>(
-    site: &S,
-    sheet: &mut [Entry<S::Cost>],
-    queue: &mut [u16],
-    len: usize,
-    place: u16,
-) -> usize
-    requires lawful { Lawful S.Cost.Cost.kind (S.Site.meaning site.now) }
-    requires ready { Ready S.Cost.Cost.kind (S.Site.meaning site.now) sheet.old queue.old len }
+fn open_place<S: Site>(site: &S, sheet: &mut [Entry<S::Cost>], queue: &mut Queue<'_>, place: u16)
+    requires ready { Ready S.Cost.Cost.kind (S.Site.meaning site.now) sheet.old queue.old }
     requires place { place < (S.Site.meaning site.now).places }
     requires within { Within S.Cost.Cost.kind (distance_of sheet.old place) }
     requires improves { Improves S.Cost.Cost.kind (S.Site.meaning site.now) sheet.old place }
-    ensures { Swept S.Cost.Cost.kind (S.Site.meaning site.now) place ((S.Site.meaning site.now).ways place) (mark_place sheet.old place) sheet.new queue.old queue.new len result }
+    ensures { Swept S.Cost.Cost.kind (S.Site.meaning site.now) place ((S.Site.meaning site.now).ways place) (mark_place sheet.old place) sheet.new queue.old queue.new }
 {
     sheet[place as usize].mark = true;
-    expand(site, sheet, queue, len, place)
+    expand(site, sheet, queue, place);
+}
+
+// Takes out a place with the least sum.
+fn next_place<C: Cost>(sheet: &[Entry<C>], queue: &mut Queue<'_>) -> Option<u16>
+    requires { Ordered (Summable C.Cost.kind sheet.now) (by_sum C.Cost.kind sheet.now) queue.old }
+    ensures { MatchOption result ((queue.old.len ≡ 0) × (queue.new ≡ queue.old)) (λ p. Popped (Summable C.Cost.kind sheet.now) (by_sum C.Cost.kind sheet.now) queue.old queue.new p) }
+{
+    queue.pop(&By::<Sum, C>::new(sheet))
 }
 
 // Whether the target's distance so far is at most the sum of a place.
@@ -61,8 +52,7 @@ fn is_settled<C: Cost>(sheet: &[Entry<C>], target: u16, place: u16) -> bool
     requires summable { Summable C.Cost.kind sheet.now place }
     ensures { result ≡ length_le C.Cost.kind (distance_of sheet.now target) (sum_of C.Cost.kind sheet.now place) }
 {
-    let entry = sheet[place as usize];
-    let sum = entry.distance.plus(entry.estimate);
+    let sum = sheet[place as usize].sum();
     sheet[target as usize].distance.is_at_most(sum)
 }
 
@@ -75,21 +65,20 @@ pub fn explore<S: Site>(
     sheet: &mut [Entry<S::Cost>],
     queue: &mut [u16],
 ) -> u16
-    requires lawful { Lawful S.Cost.Cost.kind (S.Site.meaning site.now) }
     requires named { (start < (S.Site.meaning site.now).places) × (target < (S.Site.meaning site.now).places) }
     requires memory { (length sheet.old ≡ (S.Site.meaning site.now).places) × ((S.Site.meaning site.now).places ≤ length queue.old) }
     requires fresh { Fresh sheet.old }
     requires sound { Sound S.Cost.Cost.kind (S.Site.meaning site.now) target (estimate_of sheet.old) }
     ensures { Explored S.Cost.Cost.kind (S.Site.meaning site.now) start target (estimate_of sheet.old) sheet.new result }
 {
-    let mut len = relax(sheet, queue, 0, start, Length::zero(), start);
+    let mut queue = Queue::new(queue);
+    relax(sheet, &mut queue, start, Length::zero(), start);
     let mut opened = 0;
-    while len > 0 {
-        let place = queue::pop(&BySum { sheet }, queue, len);
+    while let Some(place) = next_place(sheet, &mut queue) {
         if is_settled(sheet, target, place) {
             return opened;
         }
-        len = open_place(site, sheet, queue, len - 1, place);
+        open_place(site, sheet, &mut queue, place);
         opened += 1;
     }
     opened

@@ -3,7 +3,6 @@
 
 ghost use Rattle.std.specs.Prelude.{◌≡◌, ◌<◌, ◌≤◌, length, take, drop};
 ghost use Rattle.routes.specs.Estimates.{Sound};
-ghost use Rattle.routes.specs.Sites.{Lawful};
 ghost use Rattle.sheet.specs.Sheets.{estimate_of};
 ghost use Rattle.search.specs.Searches.{Searched};
 
@@ -35,7 +34,6 @@ fn search_sheet<S: Site>(
     queue: &mut [u16],
     list: &mut [u16],
 ) -> Found<S::Cost>
-    requires lawful { Lawful S.Cost.Cost.kind (S.Site.meaning site.now) }
     requires named { (start < (S.Site.meaning site.now).places) × (target < (S.Site.meaning site.now).places) }
     requires sheet { length sheet.old ≡ (S.Site.meaning site.now).places }
     requires memory { ((S.Site.meaning site.now).places ≤ length queue.old) × ((S.Site.meaning site.now).places ≤ length list.old) }

@@ -1,3 +1,4 @@
 pub mod Answering
 pub mod WaysOut
 pub mod WaysWalked
+pub mod WaysMet

@@ -11,13 +11,12 @@ search_sheet-requires g c =
     let m = g.S.Site.meaning c.args.site.now in
     let n = c.places-places.result in
     let sheet = c.args.sheet.now in
-    let front : length (take n sheet) ≡ n = omega (arith, length-take n sheet, c.requires.memory.0, c.places-places.ensures.count) in
+    let front : length (take n sheet) ≡ n = omega (arith, length-take n sheet, c.requires.memory.0, c.places-places.ensures) in
     record {
-      lawful = c.places-places.ensures.lawful;
       named = c.requires.named;
-      sheet = front ∙ c.places-places.ensures.count;
+      sheet = front ∙ c.places-places.ensures;
       memory = (c.requires.memory.1, c.requires.memory.2);
-      sound = subst (λ k. Sound K m c.args.target (estimate_of (take k sheet))) (sym c.places-places.ensures.count) c.requires.sound;
+      sound = subst (λ k. Sound K m c.args.target (estimate_of (take k sheet))) (sym c.places-places.ensures) c.requires.sound;
     }
 
 pub returns : goal.returns
@@ -28,7 +27,7 @@ returns g c =
     let sheet = c.args.sheet.now in
     let after = c.search_sheet.new.sheet in
     let r = c.search_sheet.result in
-    let all = c.places-places.ensures.count in
+    let all = c.places-places.ensures in
     let front : length (take n sheet) ≡ n = omega (arith, length-take n sheet, c.requires.memory.0, all) in
     let long : length after ≡ m.places = c.search_sheet.auto.sheet ∙ front ∙ all in
     let first = subst (λ k. Searched K m c.args.start c.args.target (take k sheet) after c.args.list.now c.search_sheet.new.list r.answer r.opened r.count) all c.search_sheet.ensures in

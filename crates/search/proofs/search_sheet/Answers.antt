@@ -8,7 +8,6 @@ use Rattle.search.proofs.search_sheet.Goals as goal
 
 pub explore-opened-requires : goal.explore-opened-requires
 explore-opened-requires g c = record {
-  lawful = c.requires.lawful;
   named = c.requires.named;
   memory = (c.clear.auto.sheet ∙ c.requires.sheet, c.requires.memory.0);
   fresh = clear_fresh c.args.sheet.now c.clear.new.sheet c.clear.ensures;
@@ -23,9 +22,9 @@ tell_route-count-requires g c =
     let m = g.S.Site.meaning c.args.site.now in
     let long : length c.explore-opened.new.sheet ≡ m.places = c.explore-opened.auto.sheet ∙ c.clear.auto.sheet ∙ c.requires.sheet in
     record {
-      few = omega (arith, long, c.requires.lawful.places_few);
+      few = omega (arith, long, (g.met.S.Site.lawful c.args.site.now).places_few);
       place = omega (arith, long, c.requires.named.1);
-      leads = links_lead g.met.S.Cost.Cost.lawful g.met.S.Cost.PositiveCost.positive c.requires.lawful c.args.start c.requires.named.0 c.explore-opened.new.sheet _ c.explore-opened.ensures.linked long;
+      leads = links_lead g.met.S.Cost.Cost.lawful g.met.S.Cost.PositiveCost.positive (g.met.S.Site.lawful c.args.site.now) c.args.start c.requires.named.0 c.explore-opened.new.sheet _ c.explore-opened.ensures.linked long;
       room = omega (arith, long, c.requires.memory.1);
     }
 
@@ -40,8 +39,8 @@ raise-requires g c =
     let same = clear_estimates c.args.sheet.now c.clear.new.sheet c.clear.ensures in
     let listed : target < length sheet = omega (arith, c.requires.named.1) in
     record {
-      answer = subst (Within K) (sym (read_distance sheet target c.index-sheet-target.result listed c.index-sheet-target.is)) (answer_within laws g.met.S.Cost.PositiveCost.positive c.requires.lawful c.args.start target c.requires.named.0 c.requires.named.1 c.args.sheet.now (estimate_of c.clear.new.sheet) same sheet sheet c.explore-opened.result c.explore-opened.ensures long);
-      marked = marked_within laws g.met.S.Cost.PositiveCost.positive c.requires.lawful c.args.start target c.requires.named.0 c.requires.named.1 c.args.sheet.now (estimate_of c.clear.new.sheet) same sheet sheet c.explore-opened.result c.explore-opened.ensures long;
+      answer = subst (Within K) (sym (read_distance sheet target c.index-sheet-target.result listed c.index-sheet-target.is)) (answer_within laws g.met.S.Cost.PositiveCost.positive (g.met.S.Site.lawful c.args.site.now) c.args.start target c.requires.named.0 c.requires.named.1 c.args.sheet.now (estimate_of c.clear.new.sheet) same sheet sheet c.explore-opened.result c.explore-opened.ensures long);
+      marked = marked_within laws g.met.S.Cost.PositiveCost.positive (g.met.S.Site.lawful c.args.site.now) c.args.start target c.requires.named.0 c.requires.named.1 c.args.sheet.now (estimate_of c.clear.new.sheet) same sheet sheet c.explore-opened.result c.explore-opened.ensures long;
     }
 
 pub returns : goal.returns
@@ -54,5 +53,5 @@ returns g c =
     let long : length sheet ≡ m.places = c.explore-opened.auto.sheet ∙ c.clear.auto.sheet ∙ c.requires.sheet in
     let same = clear_estimates c.args.sheet.now c.clear.new.sheet c.clear.ensures in
     let listed : target < length sheet = omega (arith, c.requires.named.1) in
-    searched_all laws g.met.S.Cost.PositiveCost.positive c.requires.lawful c.args.start target c.requires.named.0 c.requires.named.1 c.args.sheet.now (estimate_of c.clear.new.sheet) same sheet c.raise.new.sheet c.explore-opened.result c.explore-opened.ensures long
+    searched_all laws g.met.S.Cost.PositiveCost.positive (g.met.S.Site.lawful c.args.site.now) c.args.start target c.requires.named.0 c.requires.named.1 c.args.sheet.now (estimate_of c.clear.new.sheet) same sheet c.raise.new.sheet c.explore-opened.result c.explore-opened.ensures long
     (get_or sheet target old).distance (read_distance sheet target old listed c.index-sheet-target.is) c.raise.ensures c.args.list.now c.tell_route-count.new.list c.tell_route-count.result c.tell_route-count.ensures

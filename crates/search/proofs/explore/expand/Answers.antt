@@ -1,53 +1,61 @@
-use Rattle.std.proofs.Common.{◌≡◌, ◌<◌, false, length, sym, ◌∙◌, subst, arith, rules}
-use Rattle.std.proofs.lemmas.List.{take_all}
+use Rattle.std.proofs.Common.{◌≡◌, ◌<◌, false, length, take, sym, ◌∙◌, subst, arith, rules}
+use Rattle.std.proofs.lemmas.List.{take_all, length_push}
 use Rattle.cost.specs.Lengths.{Within, length_le}
+use Rattle.site.proofs.WaysMet.{walk_meets, walk_ends}
 use Rattle.sheet.specs.Sheets.{distance_of, Relaxed}
 use Rattle.search.specs.Exploring.{Swept}
-use Rattle.search.proofs.Sweeps.{read_distance, offered_is, ways_done, way_there, segment_there, end_place, few, state_within, swept_none, swept_turn, next_within, next_estimate, next_room}
+use Rattle.search.proofs.Sweeps.{read_distance, offered_is, segment_there, end_place, state_within, swept_none, swept_turn, next_within, next_estimate, next_room}
 use Rattle.search.proofs.explore.expand.Goals as goal
 
 pub offset_bounds-sheet-from : goal.offset_bounds-sheet-from
 offset_bounds-sheet-from g c = let h : c.args.from < length c.args.sheet.now = omega (arith, c.requires.ready.long, c.requires.place) in search rules
 
 pub loop-way-init : goal.loop-way-init
-loop-way-init g c = ((omega arith), swept_none g.met.S.Cost.Cost.lawful (g.S.Site.meaning c.args.site.now) c.args.from c.args.sheet.now c.args.queue.now c.args.len c.requires.ready.queue)
+loop-way-init g c = swept_none g.met.S.Cost.Cost.lawful (g.S.Site.meaning c.args.site.now) c.args.from c.args.sheet.now c.args.queue.now c.requires.ready.ordered
 
 pub cost_over-cost-requires : goal.cost_over-cost-requires
-cost_over-cost-requires g c = segment_there g.met.S.Cost.Cost.lawful c.requires.lawful c.args.from c.loop-way.index c.requires.place c.in-Some.way c.in-Some.ensures
-
-pub plus-requires : goal.plus-requires
-plus-requires g c = (
-  subst (Within g.S.Cost.Cost.kind) (sym (read_distance c.args.sheet.now c.args.from c.index-sheet-from.result (omega (arith, c.requires.ready.long, c.requires.place)) c.index-sheet-from.is)) c.requires.within,
-  subst (Within g.S.Cost.Cost.kind) (sym c.cost_over-cost.ensures) (state_within g.met.S.Cost.Cost.lawful c.requires.lawful c.args.from c.loop-way.index c.requires.place c.in-Some.way c.in-Some.ensures),
-)
-
-pub relax-len-requires : goal.relax-len-requires
-relax-len-requires g c =
-    let K = g.S.Cost.Cost.kind in
-    let laws = g.met.S.Cost.Cost.lawful in
+cost_over-cost-requires g c =
     let m = g.S.Site.meaning c.args.site.now in
     let x = c.args.from in
     let w = c.in-Some.way in
+    let is = walk_meets g.S.Site.meaning m x c.requires.place c.of-way-items.result c.into_iter-way-iterator.result c.of-way-items.ensures c.into_iter-way-iterator.ensures.into_iter_gives c.loop-way.yielded c.loop-way.way-iterator c.loop-way.yielded_by c.next.result c.next.new.self c.next.ensures.steps w c.in-Some.is in
+    segment_there g.met.S.Cost.Cost.lawful (g.met.S.Site.lawful c.args.site.now) x (length c.loop-way.yielded) c.requires.place w is
+
+pub plus-requires : goal.plus-requires
+plus-requires g c =
+    let m = g.S.Site.meaning c.args.site.now in
+    let x = c.args.from in
+    let w = c.in-Some.way in
+    let is = walk_meets g.S.Site.meaning m x c.requires.place c.of-way-items.result c.into_iter-way-iterator.result c.of-way-items.ensures c.into_iter-way-iterator.ensures.into_iter_gives c.loop-way.yielded c.loop-way.way-iterator c.loop-way.yielded_by c.next.result c.next.new.self c.next.ensures.steps w c.in-Some.is in (
+      subst (Within g.S.Cost.Cost.kind) (sym (read_distance c.args.sheet.now x c.index-sheet-from.result (omega (arith, c.requires.ready.long, c.requires.place)) c.index-sheet-from.is)) c.requires.within,
+      subst (Within g.S.Cost.Cost.kind) (sym c.cost_over-cost.ensures) (state_within g.met.S.Cost.Cost.lawful (g.met.S.Site.lawful c.args.site.now) x (length c.loop-way.yielded) c.requires.place w is),
+    )
+
+pub relax-requires : goal.relax-requires
+relax-requires g c =
+    let K = g.S.Cost.Cost.kind in
+    let laws = g.met.S.Cost.Cost.lawful in
+    let m = g.S.Site.meaning c.args.site.now in
+    let lawful = g.met.S.Site.lawful c.args.site.now in
+    let x = c.args.from in
+    let w = c.in-Some.way in
+    let is = walk_meets g.S.Site.meaning m x c.requires.place c.of-way-items.result c.into_iter-way-iterator.result c.of-way-items.ensures c.into_iter-way-iterator.ensures.into_iter_gives c.loop-way.yielded c.loop-way.way-iterator c.loop-way.yielded_by c.next.result c.next.new.self c.next.ensures.steps w c.in-Some.is in
+    let i = length c.loop-way.yielded in
     let sheet = c.args.sheet.now in
     let mid = c.loop-way.sheet in
     let offered = offered_is K sheet x c.index-sheet-from.result c.cost_over-cost.result (m.state w.segment) c.plus.result (omega (arith, c.requires.ready.long, c.requires.place)) c.index-sheet-from.is c.cost_over-cost.ensures c.plus.ensures in
-    let swept = c.loop-way.invariant.1 in
-    let end = end_place laws c.requires.lawful x c.loop-way.index c.requires.place w c.in-Some.ensures in
+    let swept = c.loop-way.invariant in
+    let q = c.args.queue.now in
+    let r = c.loop-way.queue in
+    let end = end_place laws lawful x i c.requires.place w is in
     let same = c.loop-way.auto.sheet in
-    let wide = c.loop-way.auto.queue in
     record {
       listed = omega (arith, c.requires.ready.long);
-      within = subst (λ d. length_le K (distance_of mid w.end) d ≡ false → Within K d) (sym offered) (next_within laws c.requires.lawful x c.loop-way.index c.requires.place w c.in-Some.ensures sheet mid c.args.queue.now c.loop-way.queue c.args.len c.loop-way.len swept c.requires.improves);
-      fine = next_estimate laws c.requires.lawful x c.loop-way.index c.requires.place w c.in-Some.ensures sheet mid c.args.queue.now c.loop-way.queue c.args.len c.loop-way.len swept c.requires.ready.estimates;
-      queue = swept.queue;
-      room = next_room laws c.requires.lawful x c.loop-way.index c.requires.place w c.in-Some.ensures sheet mid c.args.queue.now c.loop-way.queue c.args.len c.loop-way.len swept (same ∙ c.requires.ready.long) (omega (arith, c.requires.ready.room));
+      within = subst (λ d. length_le K (distance_of mid w.end) d ≡ false → Within K d) (sym offered) (next_within laws lawful x i c.requires.place w is sheet mid q r swept c.requires.improves);
+      fine = next_estimate laws lawful x i c.requires.place w is sheet mid q r swept c.requires.ready.estimates;
+      ordered = swept.ordered;
+      room = next_room laws lawful x i c.requires.place w is sheet mid q r swept (same ∙ c.requires.ready.long) c.requires.ready.room;
     }
-
-pub overflow_add-index : goal.overflow_add-index
-overflow_add-index g c = let h = few g.met.S.Cost.Cost.lawful c.requires.lawful c.args.from c.loop-way.index c.requires.place c.in-Some.way c.in-Some.ensures in search rules
-
-pub loop-way-smaller : goal.loop-way-smaller
-loop-way-smaller g c = let h = way_there (g.S.Site.meaning c.args.site.now) c.args.from c.loop-way.index c.requires.place c.in-Some.way c.in-Some.ensures in omega arith
 
 pub loop-way-preserved : goal.loop-way-preserved
 loop-way-preserved g c =
@@ -55,20 +63,22 @@ loop-way-preserved g c =
     let laws = g.met.S.Cost.Cost.lawful in
     let m = g.S.Site.meaning c.args.site.now in
     let x = c.args.from in
-    let i = c.loop-way.index in
     let w = c.in-Some.way in
+    let is = walk_meets g.S.Site.meaning m x c.requires.place c.of-way-items.result c.into_iter-way-iterator.result c.of-way-items.ensures c.into_iter-way-iterator.ensures.into_iter_gives c.loop-way.yielded c.loop-way.way-iterator c.loop-way.yielded_by c.next.result c.next.new.self c.next.ensures.steps w c.in-Some.is in
+    let i = length c.loop-way.yielded in
     let sheet = c.args.sheet.now in
     let mid = c.loop-way.sheet in
-    let after = c.relax-len.new.sheet in
+    let after = c.relax.new.sheet in
     let r = c.loop-way.queue in
-    let t = c.relax-len.new.queue in
+    let t = c.relax.new.queue in
     let offered = offered_is K sheet x c.index-sheet-from.result c.cost_over-cost.result (m.state w.segment) c.plus.result (omega (arith, c.requires.ready.long, c.requires.place)) c.index-sheet-from.is c.cost_over-cost.ensures c.plus.ensures in
-    let there = way_there m x i c.requires.place w c.in-Some.ensures in
-    let relaxed = subst (λ d. Relaxed K mid after r t c.loop-way.len c.relax-len.result x w.end d) offered c.relax-len.ensures in
-    ((omega arith), swept_turn laws c.requires.lawful x i c.requires.place w c.in-Some.ensures sheet mid c.args.queue.now r c.args.len c.loop-way.len c.loop-way.invariant.1 after t c.relax-len.result relaxed)
+    let relaxed = subst (λ d. Relaxed K mid after r t x w.end d) offered c.relax.ensures in
+    subst (λ n. Swept K m x (take n (m.ways x)) sheet after c.args.queue.now t) (sym (length_push c.loop-way.yielded w))
+    (swept_turn laws (g.met.S.Site.lawful c.args.site.now) x i c.requires.place w is sheet mid c.args.queue.now r c.loop-way.invariant after t relaxed)
 
 pub returns : goal.returns
 returns g c =
     let m = g.S.Site.meaning c.args.site.now in
-    let done = ways_done m c.args.from c.loop-way.index c.requires.place c.in_default.ensures in
-    subst (λ ws. Swept g.S.Cost.Cost.kind m c.args.from ws c.args.sheet.now c.loop-way.sheet c.args.queue.now c.loop-way.queue c.args.len c.loop-way.len) (take_all c.loop-way.index (m.ways c.args.from) done) c.loop-way.invariant.1
+    let x = c.args.from in
+    let done = walk_ends g.S.Site.meaning m x c.requires.place c.of-way-items.result c.into_iter-way-iterator.result c.of-way-items.ensures c.into_iter-way-iterator.ensures.into_iter_gives c.loop-way.yielded c.loop-way.way-iterator c.loop-way.yielded_by c.next.result c.next.new.self c.next.ensures.steps c.in-None.is in
+    subst (λ ws. Swept g.S.Cost.Cost.kind m x ws c.args.sheet.now c.loop-way.sheet c.args.queue.now c.loop-way.queue) (take_all (length c.loop-way.yielded) (m.ways x) (omega arith)) c.loop-way.invariant

@@ -17,8 +17,7 @@ expand-requires g c =
     let listed : p < length sheet = omega (arith, c.requires.ready.long, c.requires.place) in
     let is = sym (mark_written sheet p c.index-sheet-place.result listed c.index-sheet-place.is) in
     record {
-      lawful = c.requires.lawful;
-      ready = subst (λ t. Ready K m t c.args.queue.now c.args.len) is (mark_ready sheet p listed K m c.args.queue.now c.args.len c.requires.ready);
+      ready = subst (λ t. Ready K m t c.args.queue.now) is (mark_ready sheet p listed K m c.args.queue.now c.requires.ready);
       place = c.requires.place;
       within = subst (λ t. Within K (distance_of t p)) is (subst (Within K) (sym (mark_distance sheet p listed p)) c.requires.within);
       improves = subst (λ t. Improves K m t p) is (mark_improves sheet p listed K m p c.requires.improves);
@@ -30,4 +29,4 @@ returns g c =
     let sheet = c.args.sheet.now in
     let p = c.args.place in
     let listed : p < length sheet = omega (arith, c.requires.ready.long, c.requires.place) in
-    subst (λ t. Swept g.S.Cost.Cost.kind m p (m.ways p) t c.expand.new.sheet c.args.queue.now c.expand.new.queue c.args.len c.expand.result) (mark_written sheet p c.index-sheet-place.result listed c.index-sheet-place.is) c.expand.ensures
+    subst (λ t. Swept g.S.Cost.Cost.kind m p (m.ways p) t c.expand.new.sheet c.args.queue.now c.expand.new.queue) (mark_written sheet p c.index-sheet-place.result listed c.index-sheet-place.is) c.expand.ensures
