@@ -25,33 +25,6 @@ pub struct Found<C> {
     pub count: u16,
 }
 
-// Searches on a sheet that has a record for each place and no more.
-fn search_sheet<S: Site>(
-    site: &S,
-    start: u16,
-    target: u16,
-    sheet: &mut [Entry<S::Cost>],
-    queue: &mut [u16],
-    list: &mut [u16],
-) -> Found<S::Cost>
-    requires named { (start < (S.Site.meaning site.now).places) × (target < (S.Site.meaning site.now).places) }
-    requires sheet { length sheet.old ≡ (S.Site.meaning site.now).places }
-    requires memory { ((S.Site.meaning site.now).places ≤ length queue.old) × ((S.Site.meaning site.now).places ≤ length list.old) }
-    requires sound { Sound S.Cost.Cost.kind (S.Site.meaning site.now) target (estimate_of sheet.old) }
-    ensures { Searched S.Cost.Cost.kind (S.Site.meaning site.now) start target sheet.old sheet.new list.old list.new result.answer result.opened result.count }
-{
-    clear(sheet);
-    let opened = explore(site, start, target, sheet, queue);
-    let answer = sheet[target as usize].distance;
-    let count = tell_route(sheet, start, target, list);
-    raise(sheet, answer);
-    Found {
-        answer,
-        opened,
-        count,
-    }
-}
-
 // Searches for a cheapest route from the start to the target, and raises the estimates of the places opened.
 // Sheet records beyond the places are kept.
 pub fn search<S: Site>(
@@ -68,6 +41,15 @@ pub fn search<S: Site>(
     ensures searched { Searched S.Cost.Cost.kind (S.Site.meaning site.now) start target (take (S.Site.meaning site.now).places sheet.old) (take (S.Site.meaning site.now).places sheet.new) list.old list.new result.answer result.opened result.count }
     ensures beyond { drop (S.Site.meaning site.now).places sheet.new ≡ drop (S.Site.meaning site.now).places sheet.old }
 {
-    let places = site.places() as usize;
-    search_sheet(site, start, target, &mut sheet[..places], queue, list)
+    let sheet = &mut sheet[..site.places() as usize];
+    clear(sheet);
+    let opened = explore(site, start, target, sheet, queue);
+    let answer = sheet[target as usize].distance;
+    let count = tell_route(sheet, start, target, list);
+    raise(sheet, answer);
+    Found {
+        answer,
+        opened,
+        count,
+    }
 }

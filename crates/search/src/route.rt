@@ -31,10 +31,8 @@ fn write_places<C: Cost>(sheet: &[Entry<C>], target: u16, list: &mut [u16], coun
     ensures { list.new ≡ trail (link_of sheet.now) count target ++ drop count list.old }
 {
     let mut place = target;
-    let mut left = count;
-    while left > 0 {
-        left -= 1;
-        list[left as usize] = place;
+    for at in (0..count).rev() {
+        list[at as usize] = place;
         place = sheet[place as usize].link;
     }
 }
