@@ -15,7 +15,7 @@ use Rattle.routes.proofs.Distances.{last, finite_route, last_append, distance_wi
 use Rattle.routes.proofs.Links.{step_greater, push_found, along_append}
 use Rattle.sheet.specs.declared.Entry.{Entry}
 use Rattle.sheet.specs.Sheets.{blank, estimate_of, distance_of, link_of, mark_of}
-use Rattle.search.specs.Exploring.{Fresh, Explored}
+use Rattle.search.specs.Exploring.{Explored}
 use Rattle.search.specs.Passes.{cleared, raised}
 use Rattle.sheet.specs.Sheets.{with_estimate}
 use Rattle.search.specs.Trails.{walk, trail, LinksBack}
@@ -32,9 +32,6 @@ keep f false x y e = refl
 
 -- after the sheet is cleared
 module _ {C : Type 0} (before after : List (Entry C)) (clears : (s : ℕ) → get_or after s blank ≡ cleared (get_or before s blank)) where
-  pub clear_fresh : Fresh after
-  clear_fresh = record { distance = λ s. ap (λ (t : Entry C). t.distance) (clears s); mark = λ s. ap (λ (t : Entry C). t.mark) (clears s) }
-
   pub clear_estimates : estimate_of after ≡ estimate_of before
   clear_estimates = λ t. λ s. (clears s t).estimate
 

@@ -1,5 +1,5 @@
 -- One way more is relaxed. Assumes nothing.
-use Rattle.std.proofs.Common.{◌≡◌, ℕ, ◌+◌, ◌<◌, ◌≤◌, true, false, eqb, ◌⊎◌, List, [], ◌∷◌, ◌++◌, length, get_or, take, Some, None, sym, refl, ap, ◌∙◌, subst, inl, inr, ⊎_elim, true≢false, arith}
+use Rattle.std.proofs.Common.{◌≡◌, ℕ, ◌+◌, ◌<◌, ◌≤◌, true, false, eqb, ◌⊎◌, List, [], ◌∷◌, ◌++◌, length, get_or, take, Some, sym, refl, ap, ◌∙◌, subst, inl, inr, ⊎_elim, true≢false, arith}
 use Rattle.std.proofs.lemmas.Bool.{cases_eq, cases_Bool, cond-true, cond-false, eq-eqb, ne_eqb}
 use Rattle.cost.specs.Costs.{Kind, Laws}
 use Rattle.cost.specs.Lengths.{AtMost, Within, length_le, sum, lesser, least}
@@ -18,17 +18,6 @@ use Rattle.site.specs.declared.Way.{Way as Exit}
 use Rattle.site.specs.Questions.{WayAt}
 use Rattle.site.proofs.WaysOut.{way_found}
 use Rattle.search.specs.Exploring.{Improves, Swept}
-
--- what the answer about a way tells
-module _ {C : Type 0} (m : Meaning C) (p i : ℕ) (place : p < m.places) where
-  pub way_there : (w : Exit) → WayAt m p i (Some w) → i < length (m.ways p)
-  way_there w at = at.1
-
-  pub way_is : (w : Exit) → WayAt m p i (Some w) → get_or (m.ways p) i (0, 0) ≡ (w.end, w.segment)
-  way_is w at = at.2
-
-  pub ways_done : WayAt m p i None → length (m.ways p) ≤ i
-  ways_done at = at place
 
 module _ {C : Type 0} {K : Kind C} (laws : Laws K) (m : Meaning C) (x : ℕ) where
   -- above a length, so above what is less
@@ -166,9 +155,6 @@ module _ {C : Type 0} {K : Kind C} (laws : Laws K) {m : Meaning C} (lawful : Law
   pub segment_there : w.segment < m.segments
   segment_there = lawful.way_segment x w.end w.segment way_in
 
-  pub few : i < 64
-  few = omega (arith, way_there m x i place w is, lawful.ways_few x)
-
   pub state_within : Within K (m.state w.segment)
   state_within = record {
     fits = λ c e.
@@ -179,7 +165,7 @@ module _ {C : Type 0} {K : Kind C} (laws : Laws K) {m : Meaning C} (lawful : Law
   module _ (sheet mid : List (Entry C)) (q r : Queue) (swept : Swept K m x (take i (m.ways x)) sheet mid q r) where
     pub swept_turn : (after : List (Entry C)) (t : Queue) → Relaxed K mid after r t x w.end (sum K (distance_of sheet x) (m.state w.segment)) → Swept K m x (take (i + 1) (m.ways x)) sheet after q t
     swept_turn after t relaxed =
-        let all : take (i + 1) (m.ways x) ≡ take i (m.ways x) ++ ((w.end, w.segment) ∷ []) = take_more (m.ways x) i (0, 0) (way_there m x i place w is) ∙ ap (λ e. take i (m.ways x) ++ (e ∷ [])) (way_is m x i place w is) in
+        let all : take (i + 1) (m.ways x) ≡ take i (m.ways x) ++ ((w.end, w.segment) ∷ []) = take_more (m.ways x) i (0, 0) is.1 ∙ ap (λ e. take i (m.ways x) ++ (e ∷ [])) is.2 in
         subst (λ ws. Swept K m x ws sheet after q t) (sym all) (swept_more laws m x (take i (m.ways x)) w.end w.segment sheet mid after q r t swept relaxed)
 
     pub mid_lower : (s : ℕ) → AtMost K (distance_of mid s) (distance_of sheet s)
