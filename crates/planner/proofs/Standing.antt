@@ -1,5 +1,5 @@
 -- What holds of a planner and its sheet while a call is granted. Assumes nothing.
-use Rattle.std.proofs.Common.{◌≡◌, ℕ, ◌<◌, true, List, take, sym, ap, ◌∙◌, subst, arith}
+use Rattle.std.proofs.Common.{◌≡◌, ℕ, ◌<◌, Bool, true, false, cond, List, take, Some, Option, Ok, Err, Result, is_ok, sym, ap, ◌∙◌, subst, true≢false, arith}
 use Rattle.std.proofs.lemmas.List.{get_or-take}
 use Rattle.std.proofs.lemmas.Bool.Decides.{nat_tests}
 use Rattle.cost.specs.declared.lengths.Length.{Length}
@@ -9,12 +9,25 @@ use Rattle.cost.specs.Lengths.{AtMost, Within, sum, greater, remainder}
 use Rattle.routes.specs.Sites.{Meaning, Lawful}
 use Rattle.routes.specs.Estimates.{Sound, retargeted}
 use Rattle.sheet.specs.declared.Entry.{Entry}
+use Rattle.refusals.specs.declared.Refusal.{Refusal}
+use Rattle.soundness.specs.Checks.{Tells}
+use Rattle.planner.specs.declared.Trip.{Trip}
+use Rattle.planner.specs.Trips.{has_places}
+use Rattle.planner.specs.Calls.{AsksTrip}
 use Rattle.sheet.specs.Sheets.{blank, estimate_of}
-use Rattle.planner.specs.declared.Planner.{Planner}
-use Rattle.planner.specs.Calls.{is_opened}
 
-pub opened_parts : {S C : Type 0} (m : Meaning C) (p : Planner S) → is_opened m p ≡ true → (p.start < m.places) × (p.target < m.places)
-opened_parts m p is = grind (arith, nat_tests, is)
+-- the target of a trip is a place
+pub target_named : (n : ℕ) (trip : Option Trip) (t : Trip) → has_places n trip ≡ true → trip ≡ Some t → t.target < n
+target_named n trip t named is = let h : has_places n (Some t) ≡ true = subst (λ x. has_places n x ≡ true) is named in grind (arith, nat_tests, h)
+
+-- what an answer tells that was yes
+pub told : {P : Type 0} (answer : Bool) (refusal : Refusal) → ◌≡◌ {A = Result (Unit {0}) Refusal} (Ok tt) (cond answer (Ok tt) (Err refusal)) → Tells answer P → P
+told true refusal e h = h
+told false refusal e h = absurd (true≢false (ap is_ok e))
+
+-- what a planner that is opened answers
+pub on_trip : {X : Type 0} (r : Result X Refusal) (trip : Option Trip) (t : Trip) (rest : Trip → Type 0) → trip ≡ Some t → rest t → AsksTrip r trip rest
+on_trip r trip t rest is h = subst (λ x. AsksTrip r x rest) (sym is) h
 
 -- soundness looks only at the records of the places
 module _ {C : Type 0} {K : Kind C} {m : Meaning C} (lawful : Lawful K m) (target : ℕ) (place : target < m.places) (sheet : List (Entry C)) where
