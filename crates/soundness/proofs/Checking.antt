@@ -1,20 +1,31 @@
 -- What the tests of a sheet tell. Assumes nothing.
-use Rattle.std.proofs.Common.{◌≡◌, ℕ, ◌+◌, ◌<◌, true, false, List, get_or, Some, sym, refl, ◌∙◌, subst, ⊎_elim, true≢false, arith}
-use Rattle.std.proofs.lemmas.Bool.{cases_eq}
+use Rattle.std.proofs.Common.{◌≡◌, ℕ, ◌+◌, ◌<◌, ◌≤◌, Bool, true, false, List, length, map, take, get_or, MatchBool, ap, sym, refl, ◌∙◌, subst, true≢false, arith}
 use Rattle.cost.specs.declared.lengths.Length.{Length}
 use Rattle.cost.specs.declared.lengths.Length.TheVariants.{Finite, Infinite}
 use Rattle.cost.specs.Costs.{Kind, Laws}
 use Rattle.cost.specs.Lengths.{AtMost, Within, length_le, length_within, sum, origin}
-use Rattle.routes.specs.Sites.{Meaning, Lawful}
+use Rattle.routes.specs.Sites.{Meaning, Way, Lawful}
 use Rattle.routes.specs.Estimates.{Sound}
 use Rattle.cost.proofs.LengthLemmas.{at_most_antisym, origin_least, at_most_of_eq, within_finite, within_infinite}
 use Rattle.routes.proofs.Estimates.{consistent_way}
 use Rattle.sheet.specs.declared.Entry.{Entry}
 use Rattle.site.specs.declared.Way.{Way as WayOut}
-use Rattle.sheet.specs.Sheets.{estimate_of}
-use Rattle.site.specs.Questions.{WayAt}
-use Rattle.soundness.specs.Checks.{AllWithin, ConsistentFrom}
-use Rattle.site.proofs.WaysOut.{way_found}
+use Rattle.sheet.specs.Sheets.{blank, estimate_of}
+use Rattle.site.specs.WaysOut.{way_from, ways_of}
+use Rattle.soundness.specs.Checks.{Tells, AllWithin as AllEstimatesWithin, ConsistentFrom, is_way_consistent}
+use Rattle.std.specs.List.{AllWithin, HoldsAt, range_with_len}
+use Rattle.std.proofs.lemmas.List.FromFn.{length-range_with_len, get_or-range_with_len}
+use Rattle.std.proofs.lemmas.Bool.{lt-ltb, cond-true}
+use Rattle.std.proofs.lemmas.List.{get_or_default, length-map, get_or-map, get_or-take, length-take-le}
+use Rattle.site.proofs.WaysOut.{way_found, ways_each}
+
+-- what an answer tells that was yes
+pub told : {P : Type 0} {b : Bool} → b ≡ true → Tells b P → P
+told {P} e h = subst (λ b. Tells b P) e h
+
+-- what an answer tells that was no
+pub told_not : {P : Type 0} {b : Bool} → b ≡ false → Tells b P → P → ⊥
+told_not {P} e h = subst (λ b. Tells b P) e h
 
 module _ {C : Type 0} {K : Kind C} (laws : Laws K) where
   pub within_told : (a : Length C) → length_within K a ≡ true → Within K a
@@ -31,37 +42,63 @@ module _ {C : Type 0} {K : Kind C} (laws : Laws K) where
   pub zero_tells : (a : Length C) → a ≡ origin K → length_le K a (origin K) ≡ true
   zero_tells a e = (at_most_of_eq laws e).holds
 
-  pub within_more : (sheet : List (Entry C)) (n : ℕ) → AllWithin K n sheet → length_within K (estimate_of sheet n) ≡ true → AllWithin K (n + 1) sheet
-  within_more sheet n below here s h = ⊎_elim
-      (λ (e : s ≡ n). subst (λ x. Within K (estimate_of sheet x)) (sym e) (within_told (estimate_of sheet n) here))
-      (λ (e : s ≡ n → ⊥). below s (omega arith)) (cases_eq s n)
+  -- the question whether the estimate at a place is zero
+  pub zero_asked : (sheet : List (Entry C)) (t : ℕ) (old : Entry C) → t < length sheet → {b : Bool} {z : Length C} → b ≡ length_le K (get_or sheet t old).estimate z → z ≡ origin K → length_le K (estimate_of sheet t) (origin K) ≡ b
+  zero_asked sheet t old inside asked zero = ap (λ (e : Entry C). length_le K e.estimate (origin K)) (get_or_default sheet t blank old inside) ∙ ap (length_le K (get_or sheet t old).estimate) (sym zero) ∙ sym asked
 
-module _ {C : Type 0} (K : Kind C) (m : Meaning C) (sheet : List (Entry C)) where
-  -- the estimate at s is at most the cost of the way plus the estimate at its end
-  abbrev pub FineWay : ℕ → ℕ × ℕ → Type 0
-  FineWay s w = AtMost K (estimate_of sheet s) (sum K (m.state w.1) (estimate_of sheet w.0))
+  -- what a walk over the first n entries tells
+  module _ (sheet : List (Entry C)) (n : ℕ) (room : n ≤ length sheet) where
+    pub walked : (r : Bool)
+        → MatchBool r (AllWithin (λ e. true ≡ length_within K e.estimate) (take n sheet) 0 (length (take n sheet))) ((k : ℕ) × (k < length (take n sheet)) × HoldsAt (λ e. false ≡ length_within K e.estimate) (take n sheet) k)
+        → Tells r (AllEstimatesWithin K n sheet)
+    walked true all = λ s h. within_told (estimate_of sheet s) (ap (λ e. length_within K e.estimate) (sym (get_or-take n sheet s blank h)) ∙ sym (all s blank (omega arith) (omega (arith, length-take-le n sheet room))))
+    walked false w = let k = w.0 in let inside : k < n = omega (arith, length-take-le n sheet room, w.1) in
+        λ (all : AllEstimatesWithin K n sheet). true≢false (sym (within_tells (estimate_of sheet k) (all k inside)) ∙ ap (λ e. length_within K e.estimate) (sym (get_or-take n sheet k blank inside)) ∙ sym (w.2 blank))
 
-  module _ (s i : ℕ) (w : WayOut) (at : WayAt m s i (Some w)) where
-    pub fine_more : ((j : ℕ) → j < i → FineWay s (get_or (m.ways s) j (0, 0))) → length_le K (estimate_of sheet s) (sum K (m.state w.segment) (estimate_of sheet w.end)) ≡ true → (j : ℕ) → j < i + 1 → FineWay s (get_or (m.ways s) j (0, 0))
-    fine_more below here j h = ⊎_elim
-        (λ (d : j ≡ i). subst (λ x. FineWay s (get_or (m.ways s) x (0, 0))) (sym d) (subst (FineWay s) (sym at.2) (record { holds = here })))
-        (λ (d : j ≡ i → ⊥). below j (omega arith)) (cases_eq j i)
+module _ {C : Type 0} (K : Kind C) (m : Meaning C) (sheet : List (Entry C)) (s : ℕ) (place : s < m.places) where
+  listed : ways_of m s ≡ map way_from (m.ways s)
+  listed = cond-true _ _ _ (lt-ltb s m.places place)
 
-    pub fine_not : length_le K (estimate_of sheet s) (sum K (m.state w.segment) (estimate_of sheet w.end)) ≡ false → ConsistentFrom K m sheet s → ⊥
-    fine_not above all = true≢false (sym (all w.end w.segment (way_found m s i w at)).holds ∙ above)
+  long : length (ways_of m s) ≡ length (m.ways s)
+  long = ap length listed ∙ length-map (m.ways s) way_from
 
-  pub consistent_more : (n : ℕ) → ((s : ℕ) → s < n → ConsistentFrom K m sheet s) → ConsistentFrom K m sheet n → (s : ℕ) → s < n + 1 → ConsistentFrom K m sheet s
-  consistent_more n below here s h = ⊎_elim
-      (λ (e : s ≡ n). subst (ConsistentFrom K m sheet) (sym e) here)
-      (λ (e : s ≡ n → ⊥). below s (omega arith)) (cases_eq s n)
+  read : (k : ℕ) (d : WayOut) → k < length (ways_of m s) → get_or (ways_of m s) k d ≡ way_from (get_or (m.ways s) k (0, 0))
+  read k d inside = ap (λ ws. get_or ws k d) listed ∙ get_or-map way_from (m.ways s) k (0, 0) d (omega (arith, long))
+
+  -- a way that a walk meets is a way out of the place
+  pub met : (k : ℕ) (w : WayOut) → k < length (ways_of m s) → w ≡ get_or (ways_of m s) k w → Way m s w.end w.segment
+  met k w inside at = let e = at ∙ read k w inside in way_found m s k w (place, omega (arith, long), sym (ap (λ (x : WayOut). (x.end, x.segment)) e))
+
+  -- what a walk over the ways tells
+  pub consistent_told : (r : Bool)
+      → MatchBool r (AllWithin (λ w. true ≡ is_way_consistent K m sheet s w) (ways_of m s) 0 (length (ways_of m s))) ((k : ℕ) × (k < length (ways_of m s)) × HoldsAt (λ w. false ≡ is_way_consistent K m sheet s w) (ways_of m s) k)
+      → Tells r (ConsistentFrom K m sheet s)
+  consistent_told true all = ways_each m (λ w. AtMost K (estimate_of sheet s) (sum K (m.state w.1) (estimate_of sheet w.0))) s (length (ways_of m s)) (omega (arith, long))
+      (λ j h. record { holds = ap (is_way_consistent K m sheet s) (sym (read j (way_from (0, 0)) h)) ∙ sym (all j (way_from (0, 0)) (omega arith) h) })
+  consistent_told false w =
+      let x = get_or (ways_of m s) w.0 (way_from (0, 0)) in
+      let at : x ≡ get_or (ways_of m s) w.0 x = read w.0 (way_from (0, 0)) w.1 ∙ sym (read w.0 x w.1) in
+      λ (all : ConsistentFrom K m sheet s). true≢false (sym (all x.end x.segment (met w.0 x w.1 at)).holds ∙ sym (w.2 (way_from (0, 0))))
 
 module _ {C : Type 0} {K : Kind C} (laws : Laws K) {m : Meaning C} (lawful : Lawful K m) (target : ℕ) (sheet : List (Entry C)) where
-  pub sound_made : length_le K (estimate_of sheet target) (origin K) ≡ true → AllWithin K m.places sheet → ((s : ℕ) → s < m.places → ConsistentFrom K m sheet s) → Sound K m target (estimate_of sheet)
-  sound_made zero within ways = record {
-    target_zero = zero_told laws (estimate_of sheet target) zero;
-    within = within;
-    consistent = λ s u f c h way opened. subst (λ x. AtMost K (estimate_of sheet s) (sum K x (estimate_of sheet u))) opened (ways s h u f way);
-  }
-
   pub sound_from : Sound K m target (estimate_of sheet) → (s : ℕ) → s < m.places → ConsistentFrom K m sheet s
   sound_from sound s h u f way = consistent_way laws m (estimate_of sheet) sound.consistent s u f h way
+
+  zero_plus : (k : ℕ) → 0 + k ≡ k
+  zero_plus k = omega arith
+
+  -- what a walk over the places tells
+  pub sound_told : length_le K (estimate_of sheet target) (origin K) ≡ true → AllEstimatesWithin K m.places sheet → (r : Bool)
+      → MatchBool r (AllWithin (ConsistentFrom K m sheet) (range_with_len 0 m.places) 0 (length (range_with_len 0 m.places))) ((k : ℕ) × (k < length (range_with_len 0 m.places)) × HoldsAt (λ s. ConsistentFrom K m sheet s → ⊥) (range_with_len 0 m.places) k)
+      → Tells r (Sound K m target (estimate_of sheet))
+  sound_told zero within true all = record {
+    target_zero = zero_told laws (estimate_of sheet target) zero;
+    within = within;
+    consistent = λ s u f c h way opened. subst (λ x. AtMost K (estimate_of sheet s) (sum K x (estimate_of sheet u))) opened (at s h u f way);
+  }
+    where
+      at : (s : ℕ) → s < m.places → ConsistentFrom K m sheet s
+      at s h = subst (ConsistentFrom K m sheet) (get_or-range_with_len 0 m.places s 0 h ∙ zero_plus s) (all s 0 (omega arith) (omega (arith, length-range_with_len 0 m.places)))
+  sound_told zero within false w =
+      let inside : w.0 < m.places = omega (arith, length-range_with_len 0 m.places, w.1) in
+      λ (sound : Sound K m target (estimate_of sheet)). w.2 0 (subst (ConsistentFrom K m sheet) (sym (get_or-range_with_len 0 m.places w.0 0 inside)) (sound_from sound (0 + w.0) (omega (arith, inside))))
