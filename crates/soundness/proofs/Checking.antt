@@ -4,7 +4,7 @@ use Rattle.cost.specs.declared.lengths.Length.{Length}
 use Rattle.cost.specs.declared.lengths.Length.TheVariants.{Finite, Infinite}
 use Rattle.cost.specs.Costs.{Kind, Laws}
 use Rattle.cost.specs.Lengths.{AtMost, Within, length_le, length_within, sum, origin}
-use Rattle.routes.specs.Sites.{Meaning, Way, Lawful}
+use Rattle.routes.specs.Sites.{Meaning, Way}
 use Rattle.routes.specs.Estimates.{Sound}
 use Rattle.cost.proofs.LengthLemmas.{at_most_antisym, origin_least, at_most_of_eq, within_finite, within_infinite}
 use Rattle.routes.proofs.Estimates.{consistent_way}
@@ -80,7 +80,7 @@ module _ {C : Type 0} (K : Kind C) (m : Meaning C) (sheet : List (Entry C)) (s :
       let at : x ≡ get_or (ways_of m s) w.0 x = read w.0 (way_from (0, 0)) w.1 ∙ sym (read w.0 x w.1) in
       λ (all : ConsistentFrom K m sheet s). true≢false (sym (all x.end x.segment (met w.0 x w.1 at)).holds ∙ sym (w.2 (way_from (0, 0))))
 
-module _ {C : Type 0} {K : Kind C} (laws : Laws K) {m : Meaning C} (lawful : Lawful K m) (target : ℕ) (sheet : List (Entry C)) where
+module _ {C : Type 0} {K : Kind C} (laws : Laws K) (m : Meaning C) (target : ℕ) (sheet : List (Entry C)) where
   pub sound_from : Sound K m target (estimate_of sheet) → (s : ℕ) → s < m.places → ConsistentFrom K m sheet s
   sound_from sound s h u f way = consistent_way laws m (estimate_of sheet) sound.consistent s u f h way
 

@@ -1,9 +1,8 @@
 // Whether a sheet is sound: the question that is put anew at every call that relies on the estimates.
 #![tactic(auto)]
 
-ghost use Rattle.std.specs.Prelude.{◌≡◌, ℕ, ◌<◌, ◌≤◌, true, false, length};
-ghost use Rattle.cost.specs.Lengths.{Within, length_le, sum};
-ghost use Rattle.routes.specs.Sites.{Lawful};
+ghost use Rattle.std.specs.Prelude.{◌≡◌, ◌<◌, ◌≤◌, length};
+ghost use Rattle.cost.specs.Lengths.{Within};
 ghost use Rattle.routes.specs.Estimates.{Sound};
 ghost use Rattle.sheet.specs.Sheets.{estimate_of};
 ghost use Rattle.soundness.specs.Checks.{Tells, AllWithin, ConsistentFrom, is_way_consistent};

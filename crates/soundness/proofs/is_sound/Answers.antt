@@ -21,7 +21,7 @@ returns-then-are_within g c =
     elim c.if-is_at_most.branch [
       | then-is_at_most w ↦
           let within = told (sym w.value-is ∙ c.if-are_within.true) w.are_within.ensures in
-          sound_told g.met.S.Cost.Cost.lawful (g.met.S.Site.lawful c.args.site.now) t sheet (zero ∙ w.if-is_at_most.true) (subst (λ n. AllWithin K n sheet) count within) c.all.result met
+          sound_told g.met.S.Cost.Cost.lawful m t sheet (zero ∙ w.if-is_at_most.true) (subst (λ n. AllWithin K n sheet) count within) c.all.result met
       | else-is_at_most w ↦ absurd (true≢false (sym c.if-are_within.true ∙ w.value-is ∙ w.if-is_at_most.false))
     ]
 

@@ -11,7 +11,7 @@ pub loop-place-init : goal.loop-place-init
 loop-place-init g c = filled_none (opened g.S.Cost.Cost.kind (g.S.Site.meaning c.args.site.now) c.args.target) c.args.sheet.now
 
 pub offset_bounds-sheet-place : goal.offset_bounds-sheet-place
-offset_bounds-sheet-place g c = let h : c.loop-place.place < length c.args.sheet.now = omega (arith, c.requires.room, c.places-places.ensures.count) in search rules
+offset_bounds-sheet-place g c = let h : c.loop-place.place < length c.args.sheet.now = omega (arith, c.requires.room, c.places-places.ensures) in search rules
 
 pub loop-place-preserved : goal.loop-place-preserved
 loop-place-preserved g c =
@@ -21,8 +21,8 @@ loop-place-preserved g c =
     let target = c.args.target in
     let before = c.args.sheet.now in
     let sheet = c.loop-place.sheet in
-    let listed : place < length sheet = omega (arith, c.requires.room, c.places-places.ensures.count, c.loop-place.auto.sheet) in
-    let got : c.hint.result ≡ Some (m.hint place target) = c.hint.ensures ∙ hint_there m place target (omega (arith, c.places-places.ensures.count)) c.requires.target in
+    let listed : place < length sheet = omega (arith, c.requires.room, c.places-places.ensures, c.loop-place.auto.sheet) in
+    let got : c.hint.result ≡ Some (m.hint place target) = c.hint.ensures ∙ hint_there m place target (omega (arith, c.places-places.ensures)) c.requires.target in
     elim c.match-hint.branch [
       | in-Some w ↦
           let v : w.in-Some.hint ≡ m.hint place target = cc in
@@ -35,4 +35,4 @@ pub returns : goal.returns
 returns g c =
     let K = g.S.Cost.Cost.kind in
     let m = g.S.Site.meaning c.args.site.now in
-    subst (λ n. Filled (opened K m c.args.target) n c.args.sheet.now c.loop-place.sheet) (let e : c.loop-place.place ≡ m.places = omega (arith, c.places-places.ensures.count) in e) c.loop-place.invariant
+    subst (λ n. Filled (opened K m c.args.target) n c.args.sheet.now c.loop-place.sheet) (let e : c.loop-place.place ≡ m.places = omega (arith, c.places-places.ensures) in e) c.loop-place.invariant

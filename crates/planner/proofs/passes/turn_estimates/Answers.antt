@@ -16,10 +16,10 @@ pub loop-place-init : goal.loop-place-init
 loop-place-init g c = filled_none (retargeted g.S.Cost.Cost.kind (g.S.Site.meaning c.args.site.now) c.args.target (estimate_of c.args.sheet.now)) c.args.sheet.now
 
 pub offset_bounds-sheet-place : goal.offset_bounds-sheet-place
-offset_bounds-sheet-place g c = let h : c.loop-place.place < length c.args.sheet.now = omega (arith, c.requires.room, c.places-places.ensures.count) in search rules
+offset_bounds-sheet-place g c = let h : c.loop-place.place < length c.args.sheet.now = omega (arith, c.requires.room, c.places-places.ensures) in search rules
 
 pub offset_bounds-sheet-place-in-Some : goal.offset_bounds-sheet-place-in-Some
-offset_bounds-sheet-place-in-Some g c = let h : c.loop-place.place < length c.args.sheet.now = omega (arith, c.requires.room, c.places-places.ensures.count) in search rules
+offset_bounds-sheet-place-in-Some g c = let h : c.loop-place.place < length c.args.sheet.now = omega (arith, c.requires.room, c.places-places.ensures) in search rules
 
 pub minus-requires : goal.minus-requires
 minus-requires g c =
@@ -30,11 +30,11 @@ minus-requires g c =
     let before = c.args.sheet.now in
     let sheet = c.loop-place.sheet in
     let old = c.index-sheet-place.result in
-    let listed : place < length sheet = omega (arith, c.requires.room, c.places-places.ensures.count, c.loop-place.auto.sheet) in
+    let listed : place < length sheet = omega (arith, c.requires.room, c.places-places.ensures, c.loop-place.auto.sheet) in
     let ahead = filled_ahead (retargeted K m n (estimate_of before)) place before sheet c.loop-place.invariant listed old in
     let here = ap (λ t. t.estimate) (c.index-sheet-place.is ∙ ahead) in
     let there = ap (λ t. t.estimate) (get_or_default before n c.index-sheet-target.result blank (omega (arith, c.requires.room, c.requires.target))) in
-    (subst (Within K) (sym here) (c.requires.within place (omega (arith, c.places-places.ensures.count))), subst (Within K) (sym there) (c.requires.within n c.requires.target))
+    (subst (Within K) (sym here) (c.requires.within place (omega (arith, c.places-places.ensures))), subst (Within K) (sym there) (c.requires.within n c.requires.target))
 
 pub loop-place-preserved : goal.loop-place-preserved
 loop-place-preserved g c =
@@ -45,8 +45,8 @@ loop-place-preserved g c =
     let before = c.args.sheet.now in
     let sheet = c.loop-place.sheet in
     let e = retargeted K m n (estimate_of before) in
-    let listed : place < length sheet = omega (arith, c.requires.room, c.places-places.ensures.count, c.loop-place.auto.sheet) in
-    let got : c.hint.result ≡ Some (m.hint place n) = c.hint.ensures ∙ hint_there m place n (omega (arith, c.places-places.ensures.count)) c.requires.target in
+    let listed : place < length sheet = omega (arith, c.requires.room, c.places-places.ensures, c.loop-place.auto.sheet) in
+    let got : c.hint.result ≡ Some (m.hint place n) = c.hint.ensures ∙ hint_there m place n (omega (arith, c.places-places.ensures)) c.requires.target in
     let there = ap (λ t. t.estimate) (get_or_default before n c.index-sheet-target.result blank (omega (arith, c.requires.room, c.requires.target))) in
     elim c.match-hint.branch [
       | in-Some w ↦
@@ -65,4 +65,4 @@ pub returns : goal.returns
 returns g c =
     let K = g.S.Cost.Cost.kind in
     let m = g.S.Site.meaning c.args.site.now in
-    subst (λ n. Filled (retargeted K m c.args.target (estimate_of c.args.sheet.now)) n c.args.sheet.now c.loop-place.sheet) (let e : c.loop-place.place ≡ m.places = omega (arith, c.places-places.ensures.count) in e) c.loop-place.invariant
+    subst (λ n. Filled (retargeted K m c.args.target (estimate_of c.args.sheet.now)) n c.args.sheet.now c.loop-place.sheet) (let e : c.loop-place.place ≡ m.places = omega (arith, c.places-places.ensures) in e) c.loop-place.invariant
