@@ -2,12 +2,11 @@
 use Rattle.std.proofs.Common.{◌≡◌, ℕ, ◌<◌, Bool, true, false, cond, List, take, Some, Option, Ok, Err, Result, is_ok, sym, ap, ◌∙◌, subst, true≢false, arith}
 use Rattle.std.proofs.lemmas.List.{get_or-take}
 use Rattle.std.proofs.lemmas.Bool.Decides.{nat_tests}
-use Rattle.cost.specs.declared.lengths.Length.{Length}
 use Rattle.cost.specs.declared.lengths.Length.TheVariants.{Finite}
 use Rattle.cost.specs.Costs.{Kind}
-use Rattle.cost.specs.Lengths.{AtMost, Within, sum, greater, remainder}
+use Rattle.cost.specs.Lengths.{AtMost, Within, sum}
 use Rattle.routes.specs.Sites.{Meaning, Lawful}
-use Rattle.routes.specs.Estimates.{Sound, retargeted}
+use Rattle.routes.specs.Estimates.{Sound}
 use Rattle.sheet.specs.declared.Entry.{Entry}
 use Rattle.refusals.specs.declared.Refusal.{Refusal}
 use Rattle.soundness.specs.Checks.{Tells}
@@ -42,8 +41,3 @@ module _ {C : Type 0} {K : Kind C} {m : Meaning C} (lawful : Lawful K m) (target
         subst (λ a. AtMost K a (sum K (Finite c) (estimate_of (take m.places sheet) u))) (sym (front s h))
         (subst (λ b. AtMost K (estimate_of sheet s) (sum K (Finite c) b)) (sym (front u (lawful.way_place s u f way))) (sound.consistent s u f c h way costs));
   }
-
--- the estimate at s that is turned to the target n
-pub turned : {C : Type 0} (K : Kind C) (m : Meaning C) (n : ℕ) (e : ℕ → Length C) (s : ℕ) (hint : C) (x y rest v : Length C) → hint ≡ m.hint s n → x ≡ e s → y ≡ e n → rest ≡ remainder K x y → v ≡ greater K (Finite hint) rest → v ≡ retargeted K m n e s
-unfolding retargeted
-turned K m n e s hint x y rest v same here there less most = most ∙ (λ i. greater K (Finite (same i)) ((less ∙ (λ j. remainder K (here j) (there j))) i))

@@ -1,5 +1,5 @@
 // The passes that give every place a new estimate.
-ghost use Rattle.std.specs.Prelude.{◌≡◌, ℕ, ◌<◌, ◌≤◌, length};
+ghost use Rattle.std.specs.Prelude.{ℕ, ◌<◌, ◌≤◌, length};
 ghost use Rattle.routes.specs.Estimates.{opened, retargeted};
 ghost use Rattle.soundness.specs.Checks.{AllWithin};
 ghost use Rattle.sheet.specs.Sheets.{estimate_of, Filled};
@@ -21,10 +21,11 @@ fn renew<S: Site, F: Fn(S::Cost, Length<S::Cost>) -> Length<S::Cost>>(
     requires callable { (s : ℕ) → s < (S.Site.meaning site.now).places → F.pre estimate ((S.Site.meaning site.now).hint s target) (estimate_of sheet.old s) }
     ensures { Renewed (λ s. F.post estimate ((S.Site.meaning site.now).hint s target) (estimate_of sheet.old s)) (S.Site.meaning site.now).places sheet.old sheet.new }
 {
+    // The site is asked by number, and of a zip with `iter_mut()` no value is known, so this goes by places.
     for place in 0..site.places() {
         if let Some(hint) = site.hint(place, target) {
-            let entry = sheet[place as usize];
-            sheet[place as usize].estimate = estimate(hint, entry.estimate);
+            let entry = &mut sheet[place as usize];
+            entry.estimate = estimate(hint, entry.estimate);
         }
     }
 }

@@ -9,11 +9,8 @@ use Rattle.planner.proofs.passes.renew.Goals.{in-Some, in_default}
 pub offset_bounds-sheet-place : goal.offset_bounds-sheet-place
 offset_bounds-sheet-place g c = let h : c.loop-place.place < length c.args.sheet.now = omega (arith, c.requires.room, c.places-place-end.ensures) in search rules
 
-pub offset_bounds-sheet-place-in-Some : goal.offset_bounds-sheet-place-in-Some
-offset_bounds-sheet-place-in-Some g c = let h : c.loop-place.place < length c.args.sheet.now = omega (arith, c.requires.room, c.places-place-end.ensures) in search rules
-
-pub estimate-requires : goal.estimate-requires
-estimate-requires g c =
+pub estimate-entry-requires : goal.estimate-entry-requires
+estimate-entry-requires g c =
     let m = g.S.Site.meaning c.args.site.now in
     let place = c.loop-place.place in
     let target = c.args.target in
@@ -22,8 +19,8 @@ estimate-requires g c =
     let hint : c.in-Some.hint ≡ m.hint place target = cc in
     let here = ap (λ t. t.estimate) (c.index-sheet-place.is ∙ ahead _ place c.args.sheet.now c.loop-place.sheet c.loop-place.invariant (omega (arith, c.requires.room, c.places-place-end.ensures, c.loop-place.auto.sheet)) c.index-sheet-place.result) in
     let called : goal.F-pre g c.args.estimate c.in-Some.hint c.index-sheet-place.result.estimate =
-          subst (λ h. goal.F-pre g c.args.estimate h c.index-sheet-place.result.estimate) (sym hint)
-          (subst (goal.F-pre g c.args.estimate (m.hint place target)) (sym here) (c.requires.callable place inside)) in
+    subst (λ h. goal.F-pre g c.args.estimate h c.index-sheet-place.result.estimate) (sym hint)
+    (subst (goal.F-pre g c.args.estimate (m.hint place target)) (sym here) (c.requires.callable place inside)) in
     search rules
 
 pub loop-place-preserved : goal.loop-place-preserved
@@ -37,11 +34,11 @@ loop-place-preserved g c =
     elim c.match-hint.branch [
       | in-Some w ↦
           let hint : w.in-Some.hint ≡ m.hint place target = cc in
-          let here = ap (λ t. t.estimate) (w.index-sheet-place.is ∙ ahead _ place c.args.sheet.now c.loop-place.sheet c.loop-place.invariant listed w.index-sheet-place.result) in
+          let here = ap (λ t. t.estimate) (ahead _ place c.args.sheet.now c.loop-place.sheet c.loop-place.invariant listed w.index-sheet-place.result) in
           let gives =
-                subst (λ h. goal.F-post g c.args.estimate h (estimate_of c.args.sheet.now place) w.estimate.result) hint
-                (subst (λ x. goal.F-post g c.args.estimate w.in-Some.hint x w.estimate.result) here w.estimate.ensures) in
+          subst (λ h. goal.F-post g c.args.estimate h (estimate_of c.args.sheet.now place) w.estimate-entry.result) hint
+          (subst (λ x. goal.F-post g c.args.estimate w.in-Some.hint x w.estimate-entry.result) here w.estimate-entry.ensures) in
           subst (Renewed (λ s. goal.F-post g c.args.estimate (m.hint s target) (estimate_of c.args.sheet.now s)) (place + 1) c.args.sheet.now) (sym w.sheet-is)
-          (renewed_more _ place c.args.sheet.now c.loop-place.sheet c.loop-place.invariant listed w.index-sheet-place-in-Some.result w.estimate.result gives)
+          (renewed_more _ place c.args.sheet.now c.loop-place.sheet c.loop-place.invariant listed w.index-sheet-place.result w.estimate-entry.result gives)
       | in_default w ↦ absurd (w.in_default.not-Some _ got)
     ]
