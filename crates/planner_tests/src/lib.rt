@@ -16,20 +16,9 @@ pub fn blank<C>() -> Entry<C> {
     }
 }
 
-// 0 where the call was granted, else the number of the refusal.
-pub fn number(answer: Result<(), Refusal>) -> u8 {
-    match answer {
-        Ok(()) => 0,
-        Err(refusal) => refusal.number(),
-    }
-}
-
 // How many places a search opened, and how many its route has.
 pub fn counts<C: Cost>(answer: Result<Found<C>, Refusal>) -> [u16; 2] {
-    match answer {
-        Ok(found) => [found.opened, found.count],
-        Err(_) => [9999, 9999],
-    }
+    answer.map_or([9999, 9999], |found| [found.opened, found.count])
 }
 
 #[cfg(test)]

@@ -1,9 +1,9 @@
-use crate::{blank, counts, number};
+use crate::{blank, counts};
+use bar_tests::number;
 use bars::Bars;
-use cost::{CrossingsFirst, Length, Milliseconds};
+use cost::Length;
 use floor::Floor;
 use planner::Planner;
-use sheet::Entry;
 use tables::{Cell, FloorHead, Lane, LaneCost, LaneState, Place, TapeHead};
 use tape::Tape;
 
@@ -26,44 +26,19 @@ const CELLS: [Cell; 9] = [
     Cell::Open(10),
 ];
 
-fn blank_time() -> Entry<Milliseconds> {
-    blank()
-}
-
-fn blank_cost() -> Entry<CrossingsFirst> {
-    blank()
-}
-
-fn place(x: i32) -> Place {
-    Place {
-        x,
-        y: 0,
-        first: 0,
-        ways: 0,
-        entry_first: 0,
-        entries: 0,
-    }
-}
-
+// An open lane, at its floor.
 fn lane(from: u16, to: u16, crossings: u32, milliseconds: u32) -> Lane {
     let floor = LaneCost {
         crossings,
         milliseconds,
     };
-    Lane {
-        from,
-        to,
-        floor,
-        state: LaneState::Open(floor),
-        entering: 0,
-        slot: 0,
-    }
+    Lane::new(from, to, floor, LaneState::Open(floor))
 }
 
 #[test]
 fn a_route_round_the_closed_cell(rt: HostRuntime) {
     let mut cells = CELLS;
-    let mut sheet = [blank_time(); 9];
+    let mut sheet = [blank(); 9];
     let mut queue = [0; 9];
     let mut list = [77; 9];
     let mut planner = Planner::new(Floor::new(HEAD, &mut cells));
@@ -77,7 +52,7 @@ fn a_route_round_the_closed_cell(rt: HostRuntime) {
 #[test]
 fn from_a_place_to_itself(rt: HostRuntime) {
     let mut cells = CELLS;
-    let mut sheet = [blank_time(); 9];
+    let mut sheet = [blank(); 9];
     let mut queue = [0; 9];
     let mut list = [77; 9];
     let mut planner = Planner::new(Floor::new(HEAD, &mut cells));
@@ -90,7 +65,7 @@ fn from_a_place_to_itself(rt: HostRuntime) {
 #[test]
 fn a_second_search_without_route_opens_nothing(rt: HostRuntime) {
     let mut cells = CELLS;
-    let mut sheet = [blank_time(); 9];
+    let mut sheet = [blank(); 9];
     let mut queue = [0; 9];
     let mut list = [77; 9];
     let mut planner = Planner::new(Floor::new(HEAD, &mut cells));
@@ -104,8 +79,8 @@ fn a_second_search_without_route_opens_nothing(rt: HostRuntime) {
 #[test]
 fn refusals_by_number(rt: HostRuntime) {
     let mut cells = CELLS;
-    let mut sheet = [blank_time(); 9];
-    let mut short = [blank_time(); 8];
+    let mut sheet = [blank(); 9];
+    let mut short = [blank(); 8];
     let mut planner = Planner::new(Floor::new(HEAD, &mut cells));
     assert_eq!(rt; number(planner.move_to(0)), 1);
     assert_eq!(rt; number(planner.open(9, 0, &mut short)), 2);
@@ -120,7 +95,7 @@ fn refusals_by_number(rt: HostRuntime) {
 
 #[test]
 fn fewer_crossings_first(rt: HostRuntime) {
-    let mut places = [place(0), place(1000), place(2000)];
+    let mut places = [Place::at(0, 0), Place::at(1000, 0), Place::at(2000, 0)];
     let mut lanes = [
         lane(0, 1, 0, 4000),
         lane(0, 2, 1, 2000),
@@ -130,7 +105,7 @@ fn fewer_crossings_first(rt: HostRuntime) {
         places: 3,
         lanes: 3,
     };
-    let mut sheet = [blank_cost(); 3];
+    let mut sheet = [blank(); 3];
     let mut queue = [0; 3];
     let mut list = [77; 3];
     let mut planner = Planner::new(Tape::new(head, &mut places, &mut lanes));
@@ -143,7 +118,7 @@ fn fewer_crossings_first(rt: HostRuntime) {
 #[test]
 fn a_barred_segment_is_not_entered(rt: HostRuntime) {
     let mut cells = [Cell::Open(10); 4];
-    let mut sheet = [blank_time(); 4];
+    let mut sheet = [blank(); 4];
     let mut queue = [0; 4];
     let mut list = [77; 4];
     let head = FloorHead {
