@@ -17,8 +17,8 @@ pub fn blank<C>() -> Entry<C> {
 }
 
 // How many places a search opened, and how many its route has.
-pub fn counts<C: Cost>(answer: Result<Found<C>, Refusal>) -> [u16; 2] {
-    answer.map_or([9999, 9999], |found| [found.opened, found.count])
+pub fn counts<C: Cost>(answer: Result<Found<C>, Refusal>) -> Result<[u16; 2], Refusal> {
+    answer.map(|found| [found.opened, found.count])
 }
 
 #[cfg(test)]

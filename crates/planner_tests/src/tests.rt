@@ -44,7 +44,7 @@ fn a_route_round_the_closed_cell(rt: HostRuntime) {
     let mut planner = Planner::new(Floor::new(HEAD, &mut cells));
     assert_eq!(rt; number(planner.open(0, 8, &mut sheet)), 0);
     let found = counts(planner.search(&mut sheet, &mut queue, &mut list));
-    assert_eq!(rt; found[1], 5);
+    assert_eq!(rt; found.map(|[_, count]| count), Ok(5));
     assert_eq!(rt; list, [0, 1, 2, 5, 8, 77, 77, 77, 77]);
     assert_eq!(rt; [sheet[0].mark, sheet[8].mark], [true, false]);
 }
@@ -58,7 +58,7 @@ fn from_a_place_to_itself(rt: HostRuntime) {
     let mut planner = Planner::new(Floor::new(HEAD, &mut cells));
     assert_eq!(rt; number(planner.open(3, 3, &mut sheet)), 0);
     let found = counts(planner.search(&mut sheet, &mut queue, &mut list));
-    assert_eq!(rt; found, [0, 1]);
+    assert_eq!(rt; found, Ok([0, 1]));
     assert_eq!(rt; [list[0], list[1]], [3, 77]);
 }
 
@@ -72,7 +72,7 @@ fn a_second_search_without_route_opens_nothing(rt: HostRuntime) {
     assert_eq!(rt; number(planner.open(0, 6, &mut sheet)), 0);
     let first = counts(planner.search(&mut sheet, &mut queue, &mut list));
     let second = counts(planner.search(&mut sheet, &mut queue, &mut list));
-    assert_eq!(rt; [first, second], [[7, 0], [0, 0]]);
+    assert_eq!(rt; [first, second], [Ok([7, 0]), Ok([0, 0])]);
     assert_eq!(rt; list[0], 77);
 }
 
@@ -111,7 +111,7 @@ fn fewer_crossings_first(rt: HostRuntime) {
     let mut planner = Planner::new(Tape::new(head, &mut places, &mut lanes));
     assert_eq!(rt; number(planner.open(0, 2, &mut sheet)), 0);
     let found = counts(planner.search(&mut sheet, &mut queue, &mut list));
-    assert_eq!(rt; found[1], 3);
+    assert_eq!(rt; found.map(|[_, count]| count), Ok(3));
     assert_eq!(rt; list, [0, 1, 2]);
 }
 
@@ -131,6 +131,6 @@ fn a_barred_segment_is_not_entered(rt: HostRuntime) {
     let mut planner = Planner::new(bars);
     assert_eq!(rt; number(planner.open(0, 3, &mut sheet)), 0);
     let found = counts(planner.search(&mut sheet, &mut queue, &mut list));
-    assert_eq!(rt; found[1], 3);
+    assert_eq!(rt; found.map(|[_, count]| count), Ok(3));
     assert_eq!(rt; [list[0], list[1], list[2]], [0, 2, 3]);
 }

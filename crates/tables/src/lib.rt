@@ -11,7 +11,8 @@ pub mod tape;
 
 pub use tape::{Lane, LaneCost, LaneState, Place, TapeHead};
 
-// What is said of a head and its tables, which anybody may have written: whether they keep the rules.
+// What is said of a head and its tables, which anybody may have written: whether they keep the rules. No `Result`: faulty tables are an
+// answer with a number of its own, which a customer is told, and no error that ends a call.
 #[derive(Clone, Copy, Debug, PartialEq, Eq)]
 pub enum Verdict {
     Sound = 0,
@@ -26,7 +27,7 @@ impl Verdict {
     }
 }
 
-// Whether carts may enter, and what that costs where they may. Not an `Option`: what is closed is said and printed.
+// Whether carts may enter, and what that costs where they may. No `Option`, whose `None` would say less than Closed and has no `Display`.
 #[derive(Clone, Copy, Debug, PartialEq, Eq)]
 pub enum State<T> {
     Closed,
