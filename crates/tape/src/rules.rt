@@ -81,6 +81,7 @@ impl Run {
 fn are_lanes_sound(places: &[Place], lanes: &[Lane]) -> bool
     ensures { IsTrue result ↔ SoundLanes (length places.now) (length lanes.now) places.now lanes.now }
 {
+    // Before the first lane none has left place 0. No `Option`, since a first lane is asked just what a later one is.
     let mut run = Run { from: 0, lanes: 0 };
     for lane in lanes {
         if !is_lane_sound(places, *lane) || lane.from < run.from {
