@@ -9,7 +9,7 @@ use Rattle.sheet.specs.declared.Entry.{Entry}
 use Rattle.sheet.specs.Sheets.{blank, estimate_of, distance_of, link_of, mark_of, sum_of, by_sum, Summable}
 use Rattle.queue.specs.declared.Queue.{Queue}
 use Rattle.queue.proofs.Keys.{rekeyed}
-use Rattle.search.specs.Exploring.{Ready, Improves, with_mark, mark_place}
+use Rattle.search.specs.Exploring.{Ready, with_mark, mark_place}
 
 pub mark_written : {C : Type 0} (sheet : List (Entry C)) (p : ℕ) (old : Entry C) → p < length sheet → old ≡ get_or sheet p old → set sheet p (with_mark (get_or sheet p old)) ≡ mark_place sheet p
 mark_written sheet p old listed is = ap (λ t. set sheet p (with_mark t)) (sym is ∙ get_or_read sheet p old listed is blank)
@@ -58,7 +58,3 @@ module _ {C : Type 0} (sheet : List (Entry C)) (p : ℕ) (listed : p < length sh
           })
           (λ x y _ _. (λ t. length_le K (mark_sum x t) (mark_sum y t))) ready.ordered;
     }
-
-    pub mark_improves : (x : ℕ) → Improves K m sheet x → Improves K m (mark_place sheet p) x
-    mark_improves x improves = λ u f way above.
-        subst (Within K) (λ t. sum K (sym (mark_distance x) t) (m.state f)) (improves u f way (sym (λ t. length_le K (mark_distance u t) (sum K (mark_distance x t) (m.state f))) ∙ above))

@@ -8,7 +8,7 @@ ghost use Rattle.search.specs.Trails.{walk, trail, LinksBack, Led, Walked};
 use cost::{Cost, Length};
 use sheet::Entry;
 
-// How many links lead from the target back to the start.
+// How many links lead from the target back to the start. (An iterator over links would have to carry that they lead back, to be shown to end.)
 fn count_links<C: Cost>(sheet: &[Entry<C>], start: u16, target: u16) -> u16
     requires few { length sheet.now ≤ 4096 }
     requires leads { LinksBack C.Cost.kind sheet.now start }

@@ -1,4 +1,5 @@
 // Lesser estimates and shorter distances: a place that gets one is offered to the queue.
+// Sheet and queue are lent apart: of a sheet in a struct with its queue, the checker covers no order (a `&mut [T]` in a field lent again as a `&[T]`).
 ghost use Rattle.std.specs.Prelude.{◌≡◌, ◌<◌, true, false, length, slice_index_or, slice_set};
 ghost use Rattle.cost.specs.Lengths.{length_le, Within};
 ghost use Rattle.queue.specs.Queues.{Queued, Ordered, Offered};

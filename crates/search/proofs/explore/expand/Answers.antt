@@ -1,17 +1,11 @@
-use Rattle.std.proofs.Common.{◌≡◌, ◌<◌, false, length, take, sym, ◌∙◌, subst, arith, rules}
+use Rattle.std.proofs.Common.{◌≡◌, false, length, take, sym, ◌∙◌, subst, arith}
 use Rattle.std.proofs.lemmas.List.{take_all, length_push}
 use Rattle.cost.specs.Lengths.{Within, length_le}
 use Rattle.site.proofs.WaysMet.{walk_meets, walk_ends}
 use Rattle.sheet.specs.Sheets.{distance_of, Relaxed}
 use Rattle.search.specs.Exploring.{Swept}
-use Rattle.search.proofs.Sweeps.{read_distance, offered_is, segment_there, end_place, state_within, swept_none, swept_turn, next_within, next_estimate, next_room}
+use Rattle.search.proofs.Sweeps.{read_distance, offered_is, segment_there, end_place, state_within, swept_turn, next_within, next_estimate, next_room}
 use Rattle.search.proofs.explore.expand.Goals as goal
-
-pub offset_bounds-sheet-from : goal.offset_bounds-sheet-from
-offset_bounds-sheet-from g c = let h : c.args.from < length c.args.sheet.now = omega (arith, c.requires.ready.long, c.requires.place) in search rules
-
-pub loop-way-init : goal.loop-way-init
-loop-way-init g c = swept_none g.met.S.Cost.Cost.lawful (g.S.Site.meaning c.args.site.now) c.args.from c.args.sheet.now c.args.queue.now c.requires.ready.ordered
 
 pub cost_over-cost-requires : goal.cost_over-cost-requires
 cost_over-cost-requires g c =

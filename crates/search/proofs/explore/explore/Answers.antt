@@ -2,7 +2,7 @@ use Rattle.std.proofs.Common.{◌≡◌, ◌<◌, true, false, length, sym, ap, 
 use Rattle.cost.specs.Lengths.{Within, length_le}
 use Rattle.sheet.specs.Sheets.{estimate_of, distance_of, sum_of, Relaxed}
 use Rattle.search.specs.Exploring.{Exploring}
-use Rattle.search.proofs.Exploration.{explored_none, explored_found, opened_few, place, improving, exploring_turn}
+use Rattle.search.proofs.Exploration.{explored_none, explored_found, opened_few, improving, exploring_turn}
 use Rattle.search.proofs.Starting.{relaxed_estimates, exploring_start}
 use Rattle.search.proofs.explore.explore.Goals as goal
 
@@ -30,29 +30,25 @@ returns-then-is_settled g c =
     let settled : length_le K (distance_of l.sheet c.args.target) (sum_of K l.sheet x) ≡ true = sym c.is_settled.ensures ∙ c.if-is_settled.true in
     explored_found g.met.S.Cost.Cost.lawful g.met.S.Cost.PositiveCost.positive (g.met.S.Site.lawful c.args.site.now) c.args.start c.args.target c.requires.named.0 c.requires.named.1 (estimate_of c.args.sheet.now) c.requires.sound l.sheet l.queue l.opened l.invariant.0 long c.next_place.new.queue x c.in-Some.ensures settled
 
-pub open_place-requires : goal.open_place-requires
-open_place-requires g c =
+pub open_place-requires-clause-ready : goal.open_place-requires-clause-ready
+open_place-requires-clause-ready g c =
+    let l = c.loop-place in
+    let popped = c.in-Some.ensures in
+    record {
+      long = l.auto.sheet ∙ c.relax.auto.sheet ∙ c.requires.memory.0;
+      room = omega (arith, popped.same.long, l.invariant.1, c.requires.memory.1);
+      estimates = λ s h. subst (Within g.S.Cost.Cost.kind) (sym (l.invariant.0.estimates s)) (c.requires.sound.within s h);
+      ordered = popped.ordered;
+    }
+
+pub open_place-requires-clause-improves : goal.open_place-requires-clause-improves
+open_place-requires-clause-improves g c =
     let K = g.S.Cost.Cost.kind in
-    let laws = g.met.S.Cost.Cost.lawful in
-    let positive = g.met.S.Cost.PositiveCost.positive in
-    let lawful = g.met.S.Site.lawful c.args.site.now in
     let l = c.loop-place in
     let x = c.in-Some.place in
-    let popped = c.in-Some.ensures in
     let long = l.auto.sheet ∙ c.relax.auto.sheet ∙ c.requires.memory.0 in
-    let wide = popped.same.long ∙ l.invariant.1 in
     let unsettled : length_le K (distance_of l.sheet c.args.target) (sum_of K l.sheet x) ≡ false = sym c.is_settled.ensures ∙ c.if-is_settled.false in
-    record {
-      ready = record {
-        long = long;
-        room = omega (arith, wide, c.requires.memory.1);
-        estimates = λ s h. subst (Within K) (sym (l.invariant.0.estimates s)) (c.requires.sound.within s h);
-        ordered = popped.ordered;
-      };
-      place = place laws positive lawful c.args.start c.args.target c.requires.named.0 c.requires.named.1 (estimate_of c.args.sheet.now) c.requires.sound l.sheet l.queue l.opened l.invariant.0 long c.next_place.new.queue x popped;
-      within = popped.covered.readable.distance;
-      improves = improving laws positive lawful c.args.start c.args.target c.requires.named.0 c.requires.named.1 (estimate_of c.args.sheet.now) c.requires.sound l.sheet l.queue l.opened l.invariant.0 long c.next_place.new.queue x popped unsettled;
-    }
+    improving g.met.S.Cost.Cost.lawful g.met.S.Cost.PositiveCost.positive (g.met.S.Site.lawful c.args.site.now) c.args.start c.args.target c.requires.named.0 c.requires.named.1 (estimate_of c.args.sheet.now) c.requires.sound l.sheet l.queue l.opened l.invariant.0 long c.next_place.new.queue x c.in-Some.ensures unsettled
 
 pub overflow_add-opened : goal.overflow_add-opened
 overflow_add-opened g c =

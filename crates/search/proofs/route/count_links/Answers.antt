@@ -1,4 +1,4 @@
-use Rattle.std.proofs.Common.{◌+◌, ◌<◌, length, sym, subst, arith, rules}
+use Rattle.std.proofs.Common.{◌+◌, ◌<◌, length, sym, subst, arith}
 use Rattle.routes.proofs.Links.{rank}
 use Rattle.sheet.specs.Sheets.{distance_of, link_of}
 use Rattle.search.specs.Trails.{Walked}
@@ -10,15 +10,6 @@ loop-place-init g c =
     let laws = g.met.C.Cost.lawful in
     let sheet = c.args.sheet.now in
     (walked_none laws sheet c.args.start c.args.target c.requires.found, (omega (arith, rank_below laws (length sheet) (distance_of sheet) c.args.target c.requires.found.0)))
-
-pub offset_bounds-sheet-place : goal.offset_bounds-sheet-place
-offset_bounds-sheet-place g c = let h : c.loop-place.place < length c.args.sheet.now = c.loop-place.invariant.0.led.0 in search rules
-
-pub overflow_add-links : goal.overflow_add-links
-overflow_add-links g c = let h : c.loop-place.links < 4096 = omega (arith, c.loop-place.invariant.0.short, c.requires.few) in search rules
-
-pub loop-place-smaller : goal.loop-place-smaller
-loop-place-smaller g c = omega (arith, c.loop-place.invariant.0.short)
 
 pub loop-place-preserved : goal.loop-place-preserved
 loop-place-preserved g c =
@@ -35,6 +26,3 @@ loop-place-preserved g c =
     let near : k + 1 + rank K (length sheet) (distance_of sheet) (link_of sheet place) < length sheet = omega (arith, c.loop-place.invariant.1) in
     subst (λ p. Walked sheet start target p (k + 1) × (k + 1 + rank K (length sheet) (distance_of sheet) p < length sheet)) (sym (read_link sheet place c.index-sheet-place.result walked.led.0 c.index-sheet-place.is))
     (walked_more laws sheet start target place k walked c.requires.leads away (omega arith), near)
-
-pub returns : goal.returns
-returns g c = subst (λ p. Walked c.args.sheet.now c.args.start c.args.target p c.loop-place.links) c.loop-place-test.false c.loop-place.invariant.0

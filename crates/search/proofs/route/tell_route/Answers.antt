@@ -1,31 +1,10 @@
-use Rattle.std.proofs.Common.{◌≡◌, ◌+◌, ◌<◌, ◌∷◌, ◌++◌, drop, sym, refl, ap, ◌∙◌, add-one, arith, rules}
+use Rattle.std.proofs.Common.{◌≡◌, ◌+◌, ◌∷◌, ◌++◌, drop, sym, refl, ap, ◌∙◌, add-one}
 use Rattle.cost.proofs.LengthLemmas.{infinite_not_finite}
 use Rattle.sheet.specs.Sheets.{link_of}
 use Rattle.search.specs.Trails.{trail}
 use Rattle.search.proofs.Sweeps.{read_distance}
 use Rattle.search.proofs.Walks.{trail_front}
 use Rattle.search.proofs.route.tell_route.Goals as goal
-
-pub count_links-links-requires : goal.count_links-links-requires
-count_links-links-requires g c = record {
-  few = c.requires.few;
-  leads = c.requires.leads;
-  found = (c.requires.place, (c.in-Finite.field-0, sym (read_distance c.args.sheet.now c.args.target c.index-sheet-target.result c.requires.place c.index-sheet-target.is) ∙ c.in-Finite.is));
-}
-
-pub overflow_add-count : goal.overflow_add-count
-overflow_add-count g c = let h : c.count_links-links.result < 4096 = omega (arith, c.count_links-links.ensures.short, c.requires.few) in search rules
-
-pub write_places-requires : goal.write_places-requires
-write_places-requires g c = record {
-  room = omega (arith, c.count_links-links.ensures.short, c.requires.room);
-  places = λ j l. c.count_links-links.ensures.places j (omega arith);
-}
-
-pub returns-in-Infinite : goal.returns-in-Infinite
-returns-in-Infinite g c =
-    let far = sym (read_distance c.args.sheet.now c.args.target c.index-sheet-target.result c.requires.place c.index-sheet-target.is) ∙ c.in-Infinite.is in
-    record { some = λ d e. absurd (infinite_not_finite (sym far ∙ e)); none = λ _. (refl, refl) }
 
 pub returns-in-Finite : goal.returns-in-Finite
 returns-in-Finite g c =

@@ -1,4 +1,4 @@
-use Rattle.std.proofs.Common.{◌≡◌, ◌-◌, ◌<◌, ◌≤◌, ◌++◌, length, drop, sym, ap, ◌∙◌, subst, arith, rules}
+use Rattle.std.proofs.Common.{◌≡◌, ◌-◌, ◌<◌, ◌≤◌, ◌++◌, length, drop, sym, ap, ◌∙◌, subst, arith}
 use Rattle.sheet.specs.Sheets.{link_of}
 use Rattle.search.specs.Trails.{walk, trail}
 use Rattle.search.proofs.Walks.{read_link, walk_zero, trail_zero, walk_back, write_back}
@@ -14,11 +14,6 @@ loop-at-init g c =
       sym (ap (λ ps. ps ++ drop n c.args.list.now) (ap (λ k. trail link k target) none ∙ trail_zero link target)),
     )
 
-pub offset_bounds-sheet-place : goal.offset_bounds-sheet-place
-offset_bounds-sheet-place g c =
-    let h : c.loop-at.place < length c.args.sheet.now = subst (λ p. p < length c.args.sheet.now) (sym c.loop-at.invariant.0) (c.requires.places (c.args.count - c.loop-at.at) (omega arith)) in
-    search rules
-
 pub loop-at-preserved : goal.loop-at-preserved
 loop-at-preserved g c =
     let sheet = c.args.sheet.now in
@@ -33,12 +28,3 @@ loop-at-preserved g c =
       read_link sheet c.loop-at.place c.index-sheet-place.result listed c.index-sheet-place.is ∙ walk_back link target n left some fits c.loop-at.place is,
       write_back link target n left some fits c.loop-at.list (drop n c.args.list.now) c.loop-at.place (omega (arith, c.requires.room, c.loop-at.auto.list)) is c.loop-at.invariant.1,
     )
-
-pub returns : goal.returns
-returns g c =
-    let link = link_of c.args.sheet.now in
-    let target = c.args.target in
-    let n = c.args.count in
-    let done : c.loop-at.at ≡ 0 = omega (arith, c.loop-at-test.false) in
-    let all : n - c.loop-at.at ≡ n = omega arith in
-    sym (ap (λ k. drop k c.loop-at.list) done) ∙ c.loop-at.invariant.1 ∙ ap (λ k. trail link k target ++ drop n c.args.list.now) all

@@ -14,21 +14,23 @@ returns-then-is_at_most g c =
     let low = tested g.met.C.Cost.lawful sheet p c.args.from c.args.distance _ is c.is_at_most.result true c.is_at_most.ensures c.if-is_at_most.true in
     relaxed_none g.met.C.Cost.lawful sheet p c.args.from c.args.distance c.args.queue.now low c.requires.ordered
 
-pub improve-requires : goal.improve-requires
-improve-requires g c =
+pub improve-requires-clause-readable : goal.improve-requires-clause-readable
+improve-requires-clause-readable g c =
+    let sheet = c.args.sheet.now in
+    let p = c.args.place in
+    let is = get_or_read sheet p c.index-sheet-place.result c.requires.listed c.index-sheet-place.is blank in
+    let above = tested g.met.C.Cost.lawful sheet p c.args.from c.args.distance _ is c.is_at_most.result false c.is_at_most.ensures c.if-is_at_most.false in
+    record { distance = c.requires.within above; estimate = subst (λ t. Within g.C.Cost.kind t.estimate) (sym is) c.requires.fine }
+
+pub improve-requires-clause-lesser : goal.improve-requires-clause-lesser
+improve-requires-clause-lesser g c =
     let K = g.C.Cost.kind in
     let sheet = c.args.sheet.now in
     let p = c.args.place in
     let d = c.args.distance in
     let is = get_or_read sheet p c.index-sheet-place.result c.requires.listed c.index-sheet-place.is blank in
     let above = tested g.met.C.Cost.lawful sheet p c.args.from d _ is c.is_at_most.result false c.is_at_most.ensures c.if-is_at_most.false in
-    record {
-      listed = c.requires.listed;
-      readable = record { distance = c.requires.within above; estimate = subst (λ t. Within K t.estimate) (sym is) c.requires.fine };
-      lesser = subst (λ t. length_le K (sum K d t.estimate) (sum_of K sheet p) ≡ true) (sym is) (lesser_sum g.met.C.Cost.lawful sheet p c.args.from d c.requires.listed above);
-      ordered = c.requires.ordered;
-      room = c.requires.room;
-    }
+    subst (λ t. length_le K (sum K d t.estimate) (sum_of K sheet p) ≡ true) (sym is) (lesser_sum g.met.C.Cost.lawful sheet p c.args.from d c.requires.listed above)
 
 pub returns-in-Finite : goal.returns-in-Finite
 returns-in-Finite g c =
