@@ -1,5 +1,5 @@
 -- Numbers in their ranges, and the first fault of a format. Assumes nothing.
-use Rattle.std.proofs.Common.{◌≡◌, ℕ, ◌-◌, ◌<◌, ◌≤◌, Bool, true, false, ◌⊎◌, List, [], ◌∷◌, ◌++◌, length, sym, refl, ap, ◌∙◌, subst, ⊎_elim, arith}
+use Rattle.std.proofs.Common.{◌≡◌, ℕ, ◌-◌, ◌<◌, ◌≤◌, Bool, true, false, ◌⊎◌, List, [], ◌∷◌, ◌++◌, length, Ok, Err, Result, MatchResult, IsErrAnd, sym, refl, ap, ◌∙◌, subst, ⊎_elim, arith}
 use Rattle.std.proofs.lemmas.Bool.{lt-leb, le-leb, leb-true, and_from, and_left, and_right, and_parts, both_ways}
 use Rattle.tables.specs.Floors.{between}
 use Rattle.sitefile.specs.declared.fault.Fault.{Fault}
@@ -22,6 +22,11 @@ at_most lowest highest n e = leb-true n highest (and_parts _ _ e).1
 
 pub field_read : {ranged : ℕ → Bool} {bytes rest : List ℕ} {n : ℕ} → ranged n ≡ true → n ≤ greatest → bytes ≡ encode n ++ rest → FieldRead ranged bytes n rest
 field_read in_range small form = record { begins = record { small = small; form = form }; in_range = in_range }
+
+-- what `?` passes on of a call is what the call told
+pub passed_on : {A : Type 0} (P : A → Type 0) (Q : Fault → Type 0) {f : Fault} (r : Result A Fault) → IsErrAnd r (λ x. x ≡ f) → Q f → MatchResult r P Q
+passed_on P Q (Ok x) e told = absurd e
+passed_on P Q (Err g) e told = subst Q (sym e) told
 
 -- a fault is the same whatever the reader's name for the file's size
 pub field_at : {size size' : ℕ} {ranged : ℕ → Bool} {bytes : List ℕ} {f : Fault} → size' ≡ size → FieldFault size' ranged bytes f → FieldFault size ranged bytes f

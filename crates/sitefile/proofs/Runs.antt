@@ -1,5 +1,5 @@
 -- Records one after another, of any kind. Assumes nothing.
-use Rattle.std.proofs.Common.{◌≡◌, ℕ, zero, suc, ◌+◌, ◌<◌, ◌≤◌, true, false, List, [], ◌∷◌, ◌++◌, length, get_or, drop, set, Ok, Err, Result, sym, refl, ap, ◌∙◌, subst, append_assoc, append-nil, arith}
+use Rattle.std.proofs.Common.{◌≡◌, ℕ, zero, suc, ◌+◌, ◌<◌, ◌≤◌, true, false, List, [], ◌∷◌, ◌++◌, length, get_or, drop, set, IsErrAnd, Ok, Err, Result, sym, refl, ap, ◌∙◌, subst, append_assoc, append-nil, arith}
 use Rattle.std.proofs.lemmas.List.{drop_more, drop_all, set_at, length_push}
 use Rattle.sitefile.specs.declared.fault.Fault.{Fault}
 use Rattle.sitefile.specs.declared.reader.Reader.{Reader}
@@ -46,6 +46,11 @@ module _ {X : Type 0} (R : Records X) where
     };
     same_size = same ∙ w.same_size;
   }
+
+  -- a record is not read, since one of its parts is not
+  pub not_read : {from to : Reader} {f : Fault} (r : Result X Fault) → IsErrAnd r (λ x. x ≡ f) → size to ≡ size from → ((before : List X) (next : X → Format) → FirstFault (size from) (R.format before next) (ahead from) f) → Reads R from to r
+  not_read (Ok x) e same fault = absurd e
+  not_read {from} (Err g) e same fault = record { read = λ before next. subst (λ f. FirstFault (size from) (R.format before next) (ahead from) f) (sym e) (fault before next); same_size = same }
 
   -- a walk that a fault ends
   pub stops : {i count : ℕ} {from mid to : Reader} {f : Fault} (w : Walked R i from mid) → i < count → Reads R mid to (Err f) → StopsAmong R count from f

@@ -11,7 +11,6 @@ pub(crate) struct LaneRun {
     pub(crate) from: u16,
     pub(crate) place: Place,
     pub(crate) count: u16,
-    ghost some: { 1 ≤ count },
     ghost few: { count ≤ 64 },
 }
 

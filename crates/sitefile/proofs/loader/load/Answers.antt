@@ -1,18 +1,12 @@
 use Rattle.std.proofs.Common.{◌≡◌, ◌<◌, ◌∷◌, length, get_or, sym, refl, ap, ◌∙◌, arith, rules}
-use Rattle.std.proofs.lemmas.List.{nil_from_length}
 use Rattle.std.proofs.lemmas.Slice.{first_rest}
 use Rattle.std.proofs.lemmas.Result.{err_from_is_err_and}
 use Rattle.sitefile.specs.Readers.{ahead}
 use Rattle.sitefile.specs.Floors.{floor_kind}
 use Rattle.sitefile.specs.Tapes.{tape_kind}
-use Rattle.sitefile.specs.Sites.{empty, unknown}
+use Rattle.sitefile.specs.Sites.{unknown}
 use Rattle.sitefile.proofs.SiteFiles.{load_faulty, floor_loads, floor_faults, tape_loads, tape_faults}
 use Rattle.sitefile.proofs.loader.load.Goals as goal
-
-pub returns-in_default : goal.returns-in_default
-returns-in_default c =
-    let none : length c.args.file.now ≡ 0 = search rules in
-    rw c.at.ensures (load_faulty (empty (nil_from_length _ none) refl))
 
 pub returns-in_err-head-in-70 : goal.returns-in_err-head-in-70
 returns-in_err-head-in-70 c =

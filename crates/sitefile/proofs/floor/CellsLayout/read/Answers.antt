@@ -1,7 +1,8 @@
 use Rattle.std.proofs.Common.{ap, ◌∙◌, arith}
-use Rattle.std.proofs.lemmas.Result.{err_from_is_err_and}
 use Rattle.sitefile.specs.Faults.{out_of_range}
 use Rattle.sitefile.specs.Formats.{no_number, outside, here}
+use Rattle.sitefile.specs.Floors.{cells}
+use Rattle.sitefile.proofs.Runs.{not_read}
 use Rattle.sitefile.proofs.Cells.{no_cell}
 use Rattle.sitefile.proofs.Walks.{begins_number, size_kept, number_fault, size_stays}
 use Rattle.sitefile.proofs.floor.CellsLayout.read.Goals as goal
@@ -9,8 +10,7 @@ use Rattle.sitefile.proofs.floor.CellsLayout.read.Goals as goal
 pub returns-in_err-time : goal.returns-in_err-time
 returns-in_err-time c =
     let told = c.in_err-time.ensures in
-    let p = err_from_is_err_and c.from_residual.result c.from_residual.ensures.1 in
-    rw (p.1, p.2) (record { read = λ before next. here (no_number (number_fault told)); same_size = size_stays told })
+    not_read (cells c.args.self.now.free) c.from_residual.result c.from_residual.ensures.1 (size_stays told) (λ before next. here (no_number (number_fault told)))
 
 pub returns-then-time-free : goal.returns-then-time-free
 returns-then-time-free c =

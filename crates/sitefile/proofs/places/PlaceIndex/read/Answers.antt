@@ -1,6 +1,6 @@
 use Rattle.std.proofs.Common.{◌≡◌, arith}
-use Rattle.std.proofs.lemmas.Result.{err_from_is_err_and}
 use Rattle.sitefile.specs.Tapes.{places}
+use Rattle.sitefile.proofs.Fields.{passed_on}
 use Rattle.sitefile.proofs.Runs.{stops}
 use Rattle.sitefile.proofs.PlaceIndexes.{noted_more, noted_here, places_found}
 use Rattle.sitefile.proofs.places.PlaceIndex.read.Goals as goal
@@ -15,8 +15,7 @@ loop-i-preserved c = elim c.if-i-eq0.branch [
 pub returns-in_err-read : goal.returns-in_err-read
 returns-in_err-read c =
     let told = c.in_err-read.ensures in
-    let p = err_from_is_err_and c.from_residual.result c.from_residual.ensures.1 in
-    rw (p.1, p.2) (stops places c.loop-i.invariant.walk (omega arith) told)
+    passed_on _ _ c.from_residual.result c.from_residual.ensures.1 (stops places c.loop-i.invariant.walk (omega arith) told)
 
 pub returns : goal.returns
 returns c =

@@ -1,10 +1,10 @@
 use Rattle.std.proofs.Common.{◌≡◌, ◌-◌, [], length, ap, ◌∙◌, subst, arith}
-use Rattle.std.proofs.lemmas.Result.{err_from_is_err_and}
 use Rattle.std.proofs.lemmas.Bool.{ltb-true}
 use Rattle.sitefile.specs.Faults.{broken_rule}
 use Rattle.sitefile.specs.Readers.{ahead, size}
 use Rattle.sitefile.specs.Records.{Walked}
 use Rattle.sitefile.specs.Tapes.{lanes}
+use Rattle.sitefile.proofs.Fields.{passed_on}
 use Rattle.sitefile.proofs.TapeRecords.{ranged, number_fault, rule_fault}
 use Rattle.sitefile.proofs.Rules.{lanes_none, lanes_more}
 use Rattle.sitefile.proofs.reader.Reader.check_lanes.Goals as goal
@@ -26,8 +26,7 @@ loop-i-preserved c = λ ps at.
 pub returns-in_err-lane : goal.returns-in_err-lane
 returns-in_err-lane c = λ ps at.
     let told = c.in_err-lane.ensures in
-    let p = err_from_is_err_and c.from_residual.result c.from_residual.ensures.1 in
-    rw (p.1, p.2) (number_fault c.args.places.now.count ps (c.loop-i.invariant ps at).walk (omega arith) told)
+    passed_on _ _ c.from_residual.result c.from_residual.ensures.1 (number_fault c.args.places.now.count ps (c.loop-i.invariant ps at).walk (omega arith) told)
 
 pub returns-in_default : goal.returns-in_default
 returns-in_default c = λ ps at.

@@ -1,12 +1,6 @@
-use Rattle.std.proofs.Common.{◌≡◌, ◌<◌, length, arith, rules}
-use Rattle.std.proofs.lemmas.List.{nil_from_length}
+use Rattle.std.proofs.Common.{◌<◌, length, arith, rules}
 use Rattle.sitefile.proofs.Fields.{more_left}
 use Rattle.sitefile.proofs.reader.Reader.end.Goals as goal
-
-pub returns-in-empty : goal.returns-in-empty
-returns-in-empty c =
-    let none : length c.args.self.now.left.now ≡ 0 = search rules in
-    nil_from_length _ none
 
 pub returns-in-len1-up : goal.returns-in-len1-up
 returns-in-len1-up c =

@@ -1,15 +1,14 @@
 use Rattle.std.proofs.Common.{ap, ◌∙◌, arith, rules}
-use Rattle.std.proofs.lemmas.Result.{err_from_is_err_and}
 use Rattle.sitefile.specs.Faults.{out_of_range}
 use Rattle.sitefile.specs.Formats.{no_number, outside}
+use Rattle.sitefile.proofs.Fields.{passed_on}
 use Rattle.sitefile.proofs.Walks.{begins_number, size_kept, number_fault, size_stays}
 use Rattle.sitefile.proofs.reader.Reader.ranged.Goals as goal
 
 pub returns-in_err-n : goal.returns-in_err-n
 returns-in_err-n c =
     let told = c.in_err-n.ensures in
-    let p = err_from_is_err_and c.from_residual.result c.from_residual.ensures.1 in
-    record { size = size_stays told; read = rw (p.1, p.2) (no_number (number_fault told)) }
+    record { size = size_stays told; read = passed_on _ _ c.from_residual.result c.from_residual.ensures.1 (no_number (number_fault told)) }
 
 pub returns-then-not-contains : goal.returns-then-not-contains
 returns-then-not-contains c =
