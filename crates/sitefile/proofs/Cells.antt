@@ -1,6 +1,6 @@
 -- The cells of a floor. Assumes nothing.
 use Rattle.std.proofs.Common.{◌≡◌, ℕ, ◌<◌, ◌≤◌, true, false, eqb, ◌⊎◌, List, ◌++◌, sym, refl, ap, ◌∙◌, subst, arith}
-use Rattle.std.proofs.lemmas.Bool.{or_from, or_right, ne_eqb, cond-false, and_from, le-leb}
+use Rattle.std.proofs.lemmas.Bool.{or_from, or_right, ne_eqb, cond-false}
 use Rattle.tables.specs.States.{Cell}
 use Rattle.tables.specs.declared.State.TheVariants.{Closed, Open}
 use Rattle.tables.specs.Floors.{longest_segment, is_cell}
@@ -13,9 +13,6 @@ use Rattle.sitefile.proofs.Runs.{RecordLaws}
 
 pub no_cell : (free n : ℕ) → (n ≡ 0 → ⊥) → (n < free) ⊎ ((free ≤ n) × (longest_segment < n)) → is_cell_number free n ≡ false
 no_cell free n some e = or_from _ _ (ne_eqb n 0 some) (not_between free longest_segment n e)
-
-pub a_cell : (free n : ℕ) → free ≤ n → n ≤ longest_segment → is_cell free (Open n) ≡ true
-a_cell free n low high = and_from _ _ (le-leb free n low) (le-leb n longest_segment high)
 
 cell_field : (free : ℕ) (cell : Cell) (rest : List ℕ) → is_cell free cell ≡ true → FieldRead (is_cell_number free) (encode (cell_number cell) ++ rest) (cell_number cell) rest
 cell_field free Closed rest e = field_read refl (omega arith) refl

@@ -69,15 +69,6 @@ module _ (more b : ℕ) (bytes : List ℕ) where
   zero_more : (after : List ℕ) → 128 ≤ b → BeginsBy more bytes 0 after → Malformed (suc more) (b ∷ bytes)
   zero_more after high z = not_shortest (b ∷ []) after (high, tt) (omega arith) (omega arith) (ap (λ l. b ∷ l) (z.form ∙ ap (λ l. l ++ after) (encode_low more 0 (omega arith))))
 
-  with_higher : (n : ℕ) (after : List ℕ) → 128 ≤ b → b < 256 → 0 < n → BeginsBy more bytes n after → BeginsBy (suc more) (b ∷ bytes) (b - 128 + 128 * n) after
-  with_higher n after high small some s =
-      let q : (b - 128 + 128 * n) / 128 ≡ n = omega arith in
-      let r : (b - 128 + 128 * n) % 128 + 128 ≡ b = omega arith in
-      record {
-        small = omega (arith, s.small);
-        form = ap (λ l. b ∷ l) s.form ∙ sym (ap (λ l. l ++ after) (encode_high more (b - 128 + 128 * n) (omega arith) ∙ (λ i. r i ∷ encode_by more (q i))));
-      }
-
 -- the fifth byte
 
 pub great_group : {more first size b : ℕ} {bytes mid : List ℕ} → more ≡ 0 → bytes ≡ b ∷ mid → 15 < b → FaultBy more first size bytes (malformed_number first)
@@ -98,11 +89,6 @@ module _ {more b : ℕ} {bytes mid : List ℕ} (some : 0 < more) (byte : bytes �
   pub zero_after : {first size n : ℕ} {end : List ℕ} → 128 ≤ b → n ≡ 0 → BeginsBy (more - 1) mid n end → FaultBy more first size bytes (malformed_number first)
   zero_after {end = end} high z s =
       malformed (subst (Malformed more) (sym byte) (subst (λ k. Malformed k (b ∷ mid)) less (zero_more (more - 1) b mid end high (subst (λ n. BeginsBy (more - 1) mid n end) z s)))) refl
-
-  pub number_after : {n : ℕ} {end : List ℕ} → 128 ≤ b → b < 256 → (n ≡ 0 → ⊥) → BeginsBy (more - 1) mid n end → BeginsBy more bytes (b - 128 + 128 * n) end
-  number_after {n} {end} high small some s =
-      let v = b - 128 + 128 * n in
-      subst (λ l. BeginsBy more l v end) (sym byte) (subst (λ k. BeginsBy k (b ∷ mid) v end) less (with_higher (more - 1) b mid n end high small (omega arith) s))
 
   -- the number after b, b's group and all, fits 32 bits
   pub fits_with : {n : ℕ} {end : List ℕ} → more ≤ 4 → BeginsBy (more - 1) mid n end → 128 * n + 127 < limit_by 4

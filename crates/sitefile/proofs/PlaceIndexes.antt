@@ -1,5 +1,5 @@
 -- Places found by their numbers. Assumes nothing.
-use Rattle.std.proofs.Common.{◌≡◌, ℕ, zero, suc, ◌+◌, ◌*◌, ◌%◌, ◌<◌, ◌≤◌, true, ◌&&◌, List, [], ◌∷◌, ◌++◌, length, drop, Some, Ok, Err, Result, sym, refl, ap, ◌∙◌, ⊎_elim, arith}
+use Rattle.std.proofs.Common.{◌≡◌, ℕ, zero, suc, ◌+◌, ◌*◌, ◌%◌, ◌<◌, ◌≤◌, true, ◌&&◌, List, [], ◌∷◌, ◌++◌, length, drop, Some, Ok, Err, Result, sym, ap, ◌∙◌, ⊎_elim, arith}
 use Rattle.std.specs.Result.{result_ok}
 use Rattle.std.proofs.lemmas.List.{drop_more, drop_all, drop-append-le, get_or_append_left, get_or_at, length_push}
 use Rattle.std.proofs.lemmas.Bool.{cases_lt}
@@ -13,13 +13,9 @@ use Rattle.sitefile.specs.Records.{encode_all, AllAllowed, Reads, Walked}
 use Rattle.sitefile.specs.Tapes.{no_notes_at, places}
 use Rattle.sitefile.specs.TapeParts.{PlacesAt, PlacesWalked, PlacesFound}
 use Rattle.sitefile.proofs.TapeRecords.{places_laws}
-use Rattle.sitefile.proofs.Runs.{stands, one_more, encode_push, reads_expected}
+use Rattle.sitefile.proofs.Runs.{one_more, encode_push, reads_expected}
 
 -- a place more
-
-pub noted_none : (r : Reader) → PlacesWalked 0 r r []
-unfolding stands
-noted_none r = record { walk = stands places r; noted = refl; found = λ k d h. absurd (omega arith) }
 
 -- what was found stays found when a place more is read
 found_more : {i : ℕ} {from mid : Reader} (to : Reader) (p : Place) (w : Walked places i from mid) (k : ℕ) {bytes : List ℕ} → 64 * k ≤ i → ahead mid ≡ places.encode p (ahead to) → bytes ≡ encode_all places (drop (64 * k) w.values) (ahead mid) → bytes ≡ encode_all places (drop (64 * k) (w.values ++ p ∷ [])) (ahead to)

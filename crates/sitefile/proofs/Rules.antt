@@ -71,17 +71,11 @@ run_begins {ps} before l next fresh from place count = record {
 -- The rules
 
 module _ (ps : List Place) (before : List Lane) (l : Lane) where
-  pub out_of_order : l.from < last_from before → keeps_rules ps before l ≡ false
-  out_of_order h = and_left _ _ (and_left _ _ (and_left _ _ (lt-leb (last_from before) l.from h)))
-
   pub too_many : most_leaving ≤ length (leaving l.from 0 before) → keeps_rules ps before l ≡ false
   too_many h = and_left _ _ (and_left _ _ (and_right _ _ (le-ltb (length (leaving l.from 0 before)) most_leaving h)))
 
   pub too_fast : l.floor.milliseconds < larger_difference (place_at ps l.from) (place_at ps l.to) → keeps_rules ps before l ≡ false
   too_fast h = and_left _ _ (and_right _ _ (lt-leb (larger_difference (place_at ps l.from) (place_at ps l.to)) l.floor.milliseconds h))
-
-  pub under_floor : is_state_not_under l.floor l.state ≡ false → keeps_rules ps before l ≡ false
-  under_floor h = and_right _ _ h
 
   pub all_kept : last_from before ≤ l.from → length (leaving l.from 0 before) < most_leaving → larger_difference (place_at ps l.from) (place_at ps l.to) ≤ l.floor.milliseconds → is_state_not_under l.floor l.state ≡ true → keeps_rules ps before l ≡ true
   all_kept a b c d = and_from _ _ (and_from _ _ (and_from _ _ (le-leb (last_from before) l.from a) (lt-ltb (length (leaving l.from 0 before)) most_leaving b)) (le-leb (larger_difference (place_at ps l.from) (place_at ps l.to)) l.floor.milliseconds c)) d

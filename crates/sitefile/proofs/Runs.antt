@@ -1,12 +1,12 @@
 -- Records one after another, of any kind. Assumes nothing.
-use Rattle.std.proofs.Common.{◌≡◌, ℕ, zero, suc, ◌+◌, ◌<◌, ◌≤◌, true, false, List, [], ◌∷◌, ◌++◌, length, get_or, drop, set, IsErrAnd, Ok, Err, Result, sym, refl, ap, ◌∙◌, subst, append_assoc, append-nil, arith}
-use Rattle.std.proofs.lemmas.List.{drop_more, drop_all, set_at, length_push}
+use Rattle.std.proofs.Common.{◌≡◌, ℕ, zero, suc, ◌+◌, ◌<◌, true, false, List, [], ◌∷◌, ◌++◌, length, get_or, drop, set, IsErrAnd, Ok, Err, Result, sym, refl, ap, ◌∙◌, subst, append_assoc, append-nil, arith}
+use Rattle.std.proofs.lemmas.List.{drop_more, set_at, length_push}
 use Rattle.sitefile.specs.declared.fault.Fault.{Fault}
 use Rattle.sitefile.specs.declared.reader.Reader.{Reader}
 use Rattle.sitefile.specs.Readers.{ahead, size}
 use Rattle.sitefile.specs.Faults.{out_of_range}
 use Rattle.sitefile.specs.Formats.{Format, ended, check, FirstFault, failed}
-use Rattle.sitefile.specs.Records.{Records, encode_all, AllAllowed, many, ReadAll, Reads, Walked, StopsAmong}
+use Rattle.sitefile.specs.Records.{Records, encode_all, AllAllowed, many, Reads, Walked, StopsAmong}
 use Rattle.sitefile.proofs.Fields.{fault_at, fault_same, Holds, Carries, carries_fault, carries_holding}
 
 -- What a kind of records owes: an allowed value's bytes are what the format expects, and no other's.
@@ -79,11 +79,6 @@ module _ {X : Type 0} (R : Records X) where
     walk = one_more f.walk r;
     filled = ap (λ t. set t i x) f.filled ∙ set_next f.walk.values table x i f.walk.counted few;
   }
-
-  pub filled_all : {i : ℕ} {from to : Reader} {table table' : List X} → Filled i from to table table' → length table ≤ i → ReadAll R (ahead from) table' (ahead to)
-  filled_all {i} {from} {to} {table} f all =
-      let whole = f.filled ∙ ap (λ l. f.walk.values ++ l) (drop_all i table all) ∙ append-nil f.walk.values in
-      subst (λ xs. ReadAll R (ahead from) xs (ahead to)) (sym whole) f.walk.read
 
   module _ (laws : RecordLaws R) where
     -- what holds after the records holds before them

@@ -77,7 +77,7 @@ impl Reader<'_> {
     ghost use Rattle.sitefile.specs.Tapes.{lanes};
     ghost use Rattle.sitefile.specs.TapeParts.{PlacesAt};
 
-    // Walks over `count` lanes between the places, and asks their rules.
+    // Walks over `count` lanes between the places, and asks their rules. Not by `pass_over`, since a rule needs the lanes before.
     pub(crate) fn check_lanes(&mut self, count: u32, places: &PlaceIndex<'_>) -> Result<(), Fault>
         ensures { (ps : List Place) → PlacesAt ps places.now → MatchResult result (λ _. Walked (lanes places.now.count ps) count self.old self.new) (λ f. StopsAmong (lanes places.now.count ps) count self.old f) }
     {

@@ -59,7 +59,7 @@ impl<'a> PlaceIndex<'a> {
     ghost use Rattle.sitefile.specs.Records.{StopsAmong};
     ghost use Rattle.sitefile.specs.TapeParts.{PlacesAt, PlacesWalked, PlacesFound};
 
-    // Walks over so many places.
+    // Walks over so many places. Not by `pass_over`, since a reader is kept on the way.
     pub(crate) fn read(reader: &mut Reader<'a>, count: u32) -> Result<PlaceIndex<'a>, Fault>
         requires some { 1 ≤ count }
         requires few { count ≤ 4096 }
