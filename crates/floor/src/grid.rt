@@ -4,6 +4,7 @@ ghost use Rattle.std.specs.List.{AllPass};
 ghost use Rattle.tables.specs.Floors.{is_cell, longest_segment};
 
 use crate::rules::verdict;
+use arrayvec::ArrayVec;
 use cost::Milliseconds;
 use tables::{Cell, FloorHead, Verdict};
 
@@ -26,7 +27,7 @@ impl<'a> Grid<'a> {
     ghost use Rattle.std.specs.List.{slice_get};
     ghost use Rattle.cost.specs.Milliseconds.{ms};
     ghost use Rattle.floor.specs.Floors.{SoundFloor, cells_of};
-    ghost use Rattle.floor.specs.Grids.{around, neighbours, grid};
+    ghost use Rattle.floor.specs.Grids.{around, present, neighbours, grid};
     ghost use Rattle.floor.specs.FloorSites.{head_of, grid_of};
 
     // The grid that a head and a table describe; none where they break the rules.
@@ -63,32 +64,39 @@ impl<'a> Grid<'a> {
         }
     }
 
-    // The cells up, right, down and left of the one at a row and a column, each where there is one.
-    fn around(&self, row: u16, column: u16) -> [Option<u16>; 4]
+    // The cells up, right, down and left of the one at a row and a column, where there are such.
+    fn beside(&self, row: u16, column: u16) -> ArrayVec<u16, 4>
         requires row { row < self.now.rows }
         requires column { column < self.now.columns }
-        ensures { result ≡ around self.now.rows self.now.columns row column }
+        ensures { result.items ≡ present (around self.now.rows self.now.columns row column) }
     {
-        let columns = self.columns;
-        [
-            (0 < row).then(|| (row - 1) * columns + column),
-            (column + 1 < columns).then(|| row * columns + (column + 1)),
-            (row + 1 < self.rows).then(|| (row + 1) * columns + column),
-            (0 < column).then(|| row * columns + (column - 1)),
-        ]
+        let mut cells = ArrayVec::new();
+        if 0 < row {
+            cells.push((row - 1) * self.columns + column);
+        }
+        if column + 1 < self.columns {
+            cells.push(row * self.columns + (column + 1));
+        }
+        if row + 1 < self.rows {
+            cells.push((row + 1) * self.columns + column);
+        }
+        if 0 < column {
+            cells.push(row * self.columns + (column - 1));
+        }
+        cells
     }
 
     // A neighbour of a cell, by its index among them: up, right, down, left. A number that is no cell has none.
+    #[tactic(auto, using(crate::specs::GridWays::cell_neighbours))]
     pub fn neighbour(&self, cell: u16, index: u16) -> Option<u16>
         ensures { result ≡ slice_get (neighbours self.now.rows self.now.columns cell) index }
     {
         if self.count() <= cell {
             return None;
         }
-        self.around(cell / self.columns, cell % self.columns)
-            .iter()
-            .filter_map(|beside| *beside)
-            .nth(index as usize)
+        self.beside(cell / self.columns, cell % self.columns)
+            .get(index as usize)
+            .copied()
     }
 
     // The free time for each row and each column that two cells are apart.
