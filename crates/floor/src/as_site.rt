@@ -10,7 +10,7 @@ use cost::{Cost, Length, Milliseconds};
 use site::{Site, Way, is_allowed};
 use tables::Cell;
 
-// The present cost of entering a cell.
+// The present cost of entering a cell. A function, since `From` is for a type of the crate.
 fn as_length(cell: Cell) -> Length<Milliseconds>
     ensures { result ≡ cell_length cell }
 {
