@@ -6,8 +6,8 @@ ghost use Rattle.planner.specs.Trips.{has_places};
 
 mod passes;
 
-use cost::Cost;
-use passes::{fill_hints, turn_estimates};
+use cost::Length;
+use passes::renew;
 use refusals::Refusal;
 use search::{Found, search};
 use sheet::Entry;
@@ -63,7 +63,7 @@ impl<S: Site> Planner<S> {
         ask(start < places, Refusal::UnknownPlace)?;
         ask(target < places, Refusal::UnknownPlace)?;
         ask(places as usize <= sheet.len(), Refusal::ShortMemory)?;
-        fill_hints(&self.site, target, sheet);
+        renew(&self.site, target, sheet, |hint, _| Length::Finite(hint));
         self.trip = Some(Trip {
             start,
             target,
@@ -83,7 +83,7 @@ impl<S: Site> Planner<S> {
         Ok(())
     }
 
-    // Takes another target, and turns the estimates to it.
+    // Takes another target, and turns the estimates to it: each becomes the greater of the hint and of itself less the estimate there.
     pub fn retarget(&mut self, target: u16, sheet: &mut [Entry<S::Cost>]) -> Result<(), Refusal>
         ensures answer { RetargetAnswer self.old target sheet.old result }
         ensures after { Retargets self.old target result self.new sheet.old sheet.new }
@@ -96,7 +96,10 @@ impl<S: Site> Planner<S> {
             is_sound(&self.site, trip.target, sheet),
             Refusal::UnsoundSheet,
         )?;
-        turn_estimates(&self.site, target, sheet);
+        let there = sheet[target as usize].estimate;
+        renew(&self.site, target, sheet, |hint, estimate| {
+            Length::Finite(hint).max(estimate.minus(there))
+        });
         self.trip = Some(Trip { target, ..trip });
         Ok(())
     }
