@@ -7,12 +7,12 @@ use Rattle.routes.specs.Sites.{Meaning, Way, Lawful}
 use Rattle.routes.specs.Routes.{way_to}
 use Rattle.cost.specs.declared.lengths.Length.{Length}
 use Rattle.cost.specs.declared.lengths.Length.TheVariants.{Infinite}
-use Rattle.cost.proofs.LengthLemmas.{at_most_trans, at_most_antisym, at_most_of_eq, at_most_refl, at_most_infinite, lesser_left, lesser_right, le_lesser, lesser_of_le, lesser_assoc, sum_lesser, sum_infinite, least_push}
+use Rattle.cost.proofs.LengthLemmas.{at_most_trans, at_most_antisym, at_most_of_eq, at_most_refl, at_most_infinite, lesser_left, lesser_right, le_lesser, lesser_of_le, lesser_assoc, sum_lesser, least_push}
 use Rattle.sheet.specs.declared.Entry.{Entry}
-use Rattle.sheet.specs.Sheets.{blank, estimate_of, distance_of, link_of, mark_of, by_sum, Summable, Relaxed}
+use Rattle.sheet.specs.Sheets.{blank, estimate_of, distance_of, link_of, mark_of, Relaxed}
 use Rattle.std.proofs.lemmas.List.{take_more, get_or_read}
 use Rattle.queue.specs.declared.Queue.{Queue}
-use Rattle.queue.specs.Queues.{places, Queued, Ordered}
+use Rattle.queue.specs.Queues.{places, Queued}
 use Rattle.queue.proofs.Keys.{room}
 use Rattle.site.specs.declared.Way.{Way as Exit}
 use Rattle.site.specs.Questions.{WayAt}
@@ -29,19 +29,6 @@ module _ {C : Type 0} {K : Kind C} (laws : Laws K) (m : Meaning C) (x : ℕ) whe
 
   below_lower : (a b c : Length C) → AtMost K c b → length_le K a b ≡ false → length_le K a c ≡ false
   below_lower a b c low h = ⊎_elim (λ t. absurd (true≢false (sym (let p : AtMost K a c = record { holds = t } in (at_most_trans laws p low).holds) ∙ h))) (λ f. f) (cases_Bool (length_le K a c))
-
-  pub swept_none : (sheet : List (Entry C)) (q : Queue) → Ordered (Summable K sheet) (by_sum K sheet) q → Swept K m x [] sheet sheet q q
-  swept_none sheet q ordered = record {
-    distance = λ s. sym (ap (lesser K (distance_of sheet s)) (sum_infinite laws (distance_of sheet x)) ∙ lesser_of_le laws (at_most_infinite laws (distance_of sheet s)));
-    link = λ s. inl (refl, refl);
-    estimate = λ s. refl;
-    mark = λ s. refl;
-    same = record { name = refl; long = refl };
-    ordered = ordered;
-    old = λ y h. h;
-    only = λ y h. inl h;
-    new = λ y. inl refl;
-  }
 
   module _ (ws : List (ℕ × ℕ)) (u f : ℕ) (sheet mid after : List (Entry C)) (q r t : Queue)
       (swept : Swept K m x ws sheet mid q r) (relaxed : Relaxed K mid after r t x u (sum K (distance_of sheet x) (m.state f))) where

@@ -1,5 +1,5 @@
 -- A sheet in which the estimate of one place was written. Assumes nothing.
-use Rattle.std.proofs.Common.{◌≡◌, ℕ, ◌<◌, List, length, get_or, set, sym, refl, ap, ◌∙◌, subst, ⊎_elim, arith, length-set}
+use Rattle.std.proofs.Common.{◌≡◌, ℕ, ◌<◌, List, length, get_or, set, sym, ap, ◌∙◌, subst, ⊎_elim, arith, length-set}
 use Rattle.std.proofs.lemmas.Bool.{cases_eq}
 use Rattle.cost.specs.declared.lengths.Length.{Length}
 use Rattle.sheet.specs.declared.Entry.{Entry}
@@ -14,9 +14,6 @@ module _ {C : Type 0} (sheet : List (Entry C)) (p : ℕ) (e : Entry C) where
   estimate_here inside = ap (λ (t : Entry C). t.estimate) (put_here sheet p e inside)
 
 module _ {C : Type 0} where
-  pub kept_same : (n : ℕ) (sheet : List (Entry C)) → Kept n sheet sheet
-  kept_same n sheet = record { long = refl; others = λ k. refl; beyond = λ k h. refl }
-
   pub kept_put : (n : ℕ) (sheet : List (Entry C)) (p : ℕ) (v : Length C) → p < length sheet → p < n → Kept n sheet (set sheet p (with_estimate (get_or sheet p blank) v))
   kept_put n sheet p v inside place =
       let e = with_estimate (get_or sheet p blank) v in
