@@ -45,6 +45,7 @@ fn are_ways_consistent<S: Site>(site: &S, sheet: &[Entry<S::Cost>], place: u16) 
 }
 
 // Whether the sheet is sound: zero at the target, every cost within the ceiling, every open way consistent.
+// Site and sheet stay two parameters, as its callers have them: a struct of both would be made here alone, and taken apart at each way.
 pub fn is_sound<S: Site>(site: &S, target: u16, sheet: &[Entry<S::Cost>]) -> bool
     requires target { target < (S.Site.meaning site.now).places }
     requires room { (S.Site.meaning site.now).places ≤ length sheet.now }
