@@ -30,16 +30,9 @@ prints
   10 - 10
   - 10 10";
 
-// Prints what a file describes, or what is wrong with it.
-fn check(rt: &HostRuntime, path: &str) -> anyhow::Result<ExitCode> {
+// Prints the site that a file describes, or what is wrong with it.
+fn print_site(rt: &HostRuntime, file: &[u8]) -> anyhow::Result<ExitCode> {
     let heap = rt.alloc();
-    let file = match fs::read(rt, path) {
-        Ok(file) => file,
-        Err(error) => {
-            eprintln!(rt; "cartplan: {path}: {error}")?;
-            return Ok(ExitCode::FAILURE);
-        }
-    };
     let most_cells = (LONGEST_SIDE * LONGEST_SIDE) as usize;
     let no_cost = LaneCost {
         crossings: 0,
@@ -50,7 +43,7 @@ fn check(rt: &HostRuntime, path: &str) -> anyhow::Result<ExitCode> {
     let mut places = vec![in heap; Place::at(0, 0); MOST_PLACES as usize]?;
     let mut lanes = vec![in heap; no_lane; MOST_LANES as usize]?;
     match sitefile::load(
-        file.as_slice(),
+        file,
         cells.as_mut_slice(),
         places.as_mut_slice(),
         lanes.as_mut_slice(),
@@ -74,6 +67,16 @@ fn check(rt: &HostRuntime, path: &str) -> anyhow::Result<ExitCode> {
         }
         Err(fault) => {
             println!(rt; "{fault}")?;
+            Ok(ExitCode::FAILURE)
+        }
+    }
+}
+
+fn check(rt: &HostRuntime, path: &str) -> anyhow::Result<ExitCode> {
+    match fs::read(rt, path) {
+        Ok(file) => print_site(rt, file.as_slice()),
+        Err(error) => {
+            eprintln!(rt; "cartplan: {path}: {error}")?;
             Ok(ExitCode::FAILURE)
         }
     }
