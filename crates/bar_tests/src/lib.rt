@@ -3,7 +3,7 @@
 
 use refusals::Refusal;
 
-// 0 where the call was granted, else the number of the refusal.
+// 0 where the call was granted, else the number of the refusal: tests expect the numbers that the rules give.
 pub fn number<T: Drop>(answer: Result<T, Refusal>) -> u8 {
     answer.err().map_or(0, Refusal::number)
 }

@@ -10,14 +10,13 @@ use cost::{Cost, Length, Milliseconds};
 use site::{Site, Way, is_allowed};
 use tables::Cell;
 
-// The present cost of entering a cell. A function, since `From` is for a type of the crate.
+// The present cost of entering a cell. A function: `From` is written where one of its two types is.
 fn as_length(cell: Cell) -> Length<Milliseconds>
     ensures { result ≡ cell_length cell }
 {
-    match cell {
-        Cell::Closed => Length::Infinite,
-        Cell::Open(time) => Length::Finite(Milliseconds { count: time as u64 }),
-    }
+    cell.cost().map_or(Length::Infinite, |time| {
+        Length::Finite(Milliseconds { count: time as u64 })
+    })
 }
 
 impl Floor<'_> {

@@ -10,10 +10,8 @@ use tables::{Cell, FloorHead, LONGEST_SEGMENT, LONGEST_SIDE, Verdict};
 fn is_cell(free: u32, cell: Cell) -> bool
     ensures { result ≡ is_cell free cell }
 {
-    match cell {
-        Cell::Closed => true,
-        Cell::Open(time) => (free..=LONGEST_SEGMENT).contains(&time),
-    }
+    cell.cost()
+        .is_none_or(|time| (free..=LONGEST_SEGMENT).contains(&time))
 }
 
 // Whether the numbers of a head are in their ranges.

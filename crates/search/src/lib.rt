@@ -26,7 +26,7 @@ pub struct Found<C> {
 }
 
 // Searches for a cheapest route from the start to the target, and raises the estimates of the places opened.
-// Sheet records beyond the places are kept.
+// Sheet records beyond the places are kept. Start and target are two numbers: of the planner's trip the stamp is of no use here.
 pub fn search<S: Site>(
     site: &S,
     start: u16,

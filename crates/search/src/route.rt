@@ -24,7 +24,8 @@ fn count_links<C: Cost>(sheet: &[Entry<C>], start: u16, target: u16) -> u16
     links
 }
 
-// Writes the places that the links lead through, the target last. The entries after them are kept.
+// Writes the places that the links lead through, the target last. The entries after them are kept. By number: of the values of
+// `iter_mut().rev()` a proof knows nothing.
 fn write_places<C: Cost>(sheet: &[Entry<C>], target: u16, list: &mut [u16], count: u16)
     requires room { count ≤ length list.old }
     requires places { (j : ℕ) → j < count → walk (link_of sheet.now) j target < length sheet.now }

@@ -19,7 +19,7 @@ pub fn ends<S: Site>(site: &S, place: u16) -> [Option<u16>; 4] {
     array::from_fn(|index| end(site, place, index as u16))
 }
 
-// The milliseconds of a segment's present state: 0 for closed, and absent for no segment.
+// The milliseconds of a segment's present state, as tests expect them: 0 for closed, and absent for no segment.
 fn time<S: Site<Cost = Milliseconds>>(site: &S, segment: u16) -> Option<u64> {
     site.state(segment).map(|state| match state {
         Length::Finite(cost) => cost.count,

@@ -4,6 +4,7 @@
 ghost use Rattle.std.specs.Prelude.{◌≡◌, Some};
 ghost use Rattle.tables.specs.Texts.{state_text, head_line};
 ghost use Rattle.tables.specs.Verdicts.{verdict_number};
+ghost use Rattle.tables.specs.States.{open_cost};
 
 use std::fmt;
 
@@ -11,8 +12,7 @@ pub mod tape;
 
 pub use tape::{Lane, LaneCost, LaneState, Place, TapeHead};
 
-// What is said of a head and its tables, which anybody may have written: whether they keep the rules. No `Result`: faulty tables are an
-// answer with a number of its own, which a customer is told, and no error that ends a call.
+// Whether a head and its tables keep the rules. No `Result`: that they do not is an answer which a customer is told, and ends no call.
 #[derive(Clone, Copy, Debug, PartialEq, Eq)]
 pub enum Verdict {
     Sound = 0,
@@ -32,6 +32,18 @@ impl Verdict {
 pub enum State<T> {
     Closed,
     Open(T),
+}
+
+impl<T> State<T> {
+    // What it costs to enter; none while it is closed.
+    pub fn cost(self) -> Option<T>
+        ensures { result ≡ open_cost self }
+    {
+        match self {
+            State::Closed => None,
+            State::Open(cost) => Some(cost),
+        }
+    }
 }
 
 impl<T: fmt::Display> fmt::Display for State<T> {

@@ -107,10 +107,7 @@ impl State<LaneCost> {
     pub fn is_not_under(self, floor: LaneCost) -> bool
         ensures { result ≡ is_state_not_under floor self }
     {
-        match self {
-            State::Closed => true,
-            State::Open(cost) => cost.is_not_under(floor),
-        }
+        self.cost().is_none_or(|cost| cost.is_not_under(floor))
     }
 }
 

@@ -24,7 +24,7 @@ pub struct Tape<'a> {
     ghost noted: { NotedTables places.now lanes.now },
 }
 
-// These three convert by functions, since `From` is for a type of the crate.
+// These three are functions: `From` is written where one of its two types is.
 fn cost_of(cost: LaneCost) -> CrossingsFirst
     ensures { result ≡ cost_of cost }
 {
@@ -34,10 +34,9 @@ fn cost_of(cost: LaneCost) -> CrossingsFirst
 fn length_of(state: LaneState) -> Length<CrossingsFirst>
     ensures { result ≡ length_of state }
 {
-    match state {
-        LaneState::Closed => Length::Infinite,
-        LaneState::Open(cost) => Length::Finite(cost_of(cost)),
-    }
+    state
+        .cost()
+        .map_or(Length::Infinite, |cost| Length::Finite(cost_of(cost)))
 }
 
 // A cost as it is written into a lane.

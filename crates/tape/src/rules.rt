@@ -25,10 +25,9 @@ fn is_lane_cost(cost: LaneCost) -> bool
 fn is_lane_state(floor: LaneCost, state: LaneState) -> bool
     ensures { result ≡ is_lane_state floor state }
 {
-    match state {
-        LaneState::Closed => true,
-        LaneState::Open(cost) => is_lane_cost(cost) && cost.is_not_under(floor),
-    }
+    state
+        .cost()
+        .is_none_or(|cost| is_lane_cost(cost) && cost.is_not_under(floor))
 }
 
 // Whether the counts are in range, and tables of these lengths are long enough.

@@ -79,7 +79,7 @@ impl Site for Tape<'_> {
     }
 
     fn close(&mut self, segment: u16) -> bool {
-        // By index: where `get_mut` gives no lane, nothing that a proof can name says that the lanes are as before.
+        // By index, here and below: where `get_mut` gives no lane, nothing that a proof can name says that the lanes are as before.
         let number = segment as usize;
         if self.lanes.len() <= number {
             return false;

@@ -30,6 +30,7 @@ fn lane(from: u16, to: u16, milliseconds: u32) -> Lane {
     }
 }
 
+// The verdict as a number, which is what the rules give.
 fn number(places_count: u32, lanes_count: u32, places: &[Place], lanes: &[Lane]) -> u8 {
     let head = TapeHead {
         places: places_count,
