@@ -1,5 +1,5 @@
 -- Places found by their numbers. Assumes nothing.
-use Rattle.std.proofs.Common.{◌≡◌, ℕ, zero, suc, ◌+◌, ◌*◌, ◌%◌, ◌<◌, ◌≤◌, true, ◌&&◌, List, [], ◌∷◌, ◌++◌, length, drop, Some, Ok, Err, Result, sym, ap, ◌∙◌, ⊎_elim, arith}
+use Rattle.std.proofs.Common.{◌≡◌, ℕ, zero, suc, ◌+◌, ◌*◌, ◌/◌, ◌%◌, ◌<◌, ◌≤◌, true, ◌&&◌, List, [], ◌∷◌, ◌++◌, length, drop, slice_index_or, Some, Ok, Err, Result, MatchResult, sym, refl, ap, ◌∙◌, ⊎_elim, arith}
 use Rattle.std.specs.Result.{result_ok}
 use Rattle.std.proofs.lemmas.List.{drop_more, drop_all, drop-append-le, get_or_append_left, get_or_at, length_push}
 use Rattle.std.proofs.lemmas.Bool.{cases_lt}
@@ -9,7 +9,7 @@ use Rattle.sitefile.specs.declared.fault.Fault.{Fault}
 use Rattle.sitefile.specs.declared.reader.Reader.{Reader}
 use Rattle.sitefile.specs.declared.places.PlaceIndex.{PlaceIndex}
 use Rattle.sitefile.specs.Readers.{ahead}
-use Rattle.sitefile.specs.Records.{encode_all, AllAllowed, Reads, Walked}
+use Rattle.sitefile.specs.Records.{encode_all, AllAllowed, Reads, Walked, StopsAmong}
 use Rattle.sitefile.specs.Tapes.{no_notes_at, places}
 use Rattle.sitefile.specs.TapeParts.{PlacesAt, PlacesWalked, PlacesFound}
 use Rattle.sitefile.proofs.TapeRecords.{places_laws}
@@ -79,12 +79,42 @@ module _ {ps : List Place} {index : PlaceIndex} (at : PlacesAt ps index) where
   here_is : (i : ℕ) {bytes : List ℕ} → i < length ps → bytes ≡ encode_all places (drop i ps) at.rest → bytes ≡ places.encode (place_at ps i) (encode_all places (drop (i + 1) ps) at.rest)
   here_is i few e = e ∙ ap (λ l. encode_all places l at.rest) (drop_more ps i no_place few)
 
+  no_fault_there : (i : ℕ) {from to : Reader} {f : Fault} → i < index.count → ahead from ≡ encode_all places (drop i ps) at.rest → Reads places from to (Err f) → ⊥
+  no_fault_there i {f = f} few e r =
+      let low : i < length ps = omega (arith, at.counted) in
+      reads_expected places places_laws [] (place_at ps i) (encode_all places (drop (i + 1) ps) at.rest) (Err f) r (allowed_at [] ps i at.all_allowed low) (here_is i low e)
+
   -- the record that stands there is read
-  pub find_one : (i : ℕ) {from to : Reader} (r : Result Place Fault) → i < index.count → ahead from ≡ encode_all places (drop i ps) at.rest → Reads places from to r → (result_ok r ≡ Some (place_at ps i)) × (ahead to ≡ encode_all places (drop (i + 1) ps) at.rest)
+  pub find_one : (i : ℕ) {from to : Reader} (r : Result Place Fault) → i < index.count → ahead from ≡ encode_all places (drop i ps) at.rest → Reads places from to r → result_ok r ≡ Some (place_at ps i)
   find_one i (Ok p) few e r =
       let low : i < length ps = omega (arith, at.counted) in
-      let one = reads_expected places places_laws [] (place_at ps i) (encode_all places (drop (i + 1) ps) at.rest) (Ok p) r (allowed_at [] ps i at.all_allowed low) (here_is i low e) in
-      (ap Some one.0, one.1)
-  find_one i (Err f) few e r =
+      ap Some (reads_expected places places_laws [] (place_at ps i) (encode_all places (drop (i + 1) ps) at.rest) (Ok p) r (allowed_at [] ps i at.all_allowed low) (here_is i low e)).0
+  find_one i (Err f) few e r = absurd (no_fault_there i few e r)
+
+  -- where a walk over the places that stand there ends
+  walked_to : (i : ℕ) (before xs : List Place) {rest : List ℕ} → i + length xs ≤ index.count → AllAllowed places before xs → encode_all places xs rest ≡ encode_all places (drop i ps) at.rest → rest ≡ encode_all places (drop (i + length xs) ps) at.rest
+  walked_to i before [] few all e = e ∙ ap (λ j. encode_all places (drop j ps) at.rest) (omega arith)
+  walked_to i before (p ∷ xs) {rest} few all e =
       let low : i < length ps = omega (arith, at.counted) in
-      absurd (reads_expected places places_laws [] (place_at ps i) (encode_all places (drop (i + 1) ps) at.rest) (Err f) r (allowed_at [] ps i at.all_allowed low) (here_is i low e))
+      let one = places_laws.same before p (place_at ps i) (encode_all places xs rest) (encode_all places (drop (i + 1) ps) at.rest) all.0 (allowed_at [] ps i at.all_allowed low) (here_is i low e) in
+      walked_to (i + 1) (before ++ p ∷ []) xs (omega arith) all.1 one.1 ∙ ap (λ j. encode_all places (drop j ps) at.rest) (omega arith)
+
+  place_after : (i : ℕ) {count : ℕ} {from to : Reader} → i + count ≤ index.count → ahead from ≡ encode_all places (drop i ps) at.rest → Walked places count from to → ahead to ≡ encode_all places (drop (i + count) ps) at.rest
+  place_after i few e w =
+      walked_to i [] w.values (omega (arith, w.counted)) w.read.all_allowed (sym w.read.form ∙ e)
+      ∙ ap (λ n. encode_all places (drop (i + n) ps) at.rest) w.counted
+
+  -- the records that stand there are walked over
+  pass_some : (i count : ℕ) (from to : Reader) (r : Result Unit Fault) → i + count ≤ index.count → ahead from ≡ encode_all places (drop i ps) at.rest → MatchResult r (λ _. Walked places count from to) (λ f. StopsAmong places count from f) → (result_ok r ≡ Some tt) × (ahead to ≡ encode_all places (drop (i + count) ps) at.rest)
+  pass_some i count from to (Ok x) few e w = (refl, place_after i few e w)
+  pass_some i count from to (Err f) few e s =
+      let done = s.done in
+      let fewer = s.few in
+      absurd (no_fault_there (i + done) {from = s.mid} {to = s.mid} (omega arith) (place_after i (omega arith) e s.walk) (record { read = λ before next. s.fault next; same_size = refl }))
+
+  -- from the noted reader before it a place is reached
+  pub reaches : (number : ℕ) {starts : List Reader} (start to : Reader) (r : Result Unit Fault) → number < index.count → starts ≡ index.starts.items → start ≡ slice_index_or starts (number / 64) start → MatchResult r (λ _. Walked places (number % 64) start to) (λ f. StopsAmong places (number % 64) start f) → (result_ok r ≡ Some tt) × (ahead to ≡ encode_all places (drop number ps) at.rest)
+  reaches number start to r few same is told =
+      let first : ahead start ≡ encode_all places (drop (64 * (number / 64)) ps) at.rest = ap ahead is ∙ ap (λ l. ahead (slice_index_or l (number / 64) start)) same ∙ at.found (number / 64) start (omega (arith, at.counted)) in
+      let passed = pass_some (64 * (number / 64)) (number % 64) start to r (omega arith) first told in
+      (passed.0, passed.1 ∙ ap (λ j. encode_all places (drop j ps) at.rest) (omega arith))

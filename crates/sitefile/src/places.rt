@@ -59,7 +59,7 @@ impl<'a> PlaceIndex<'a> {
     ghost use Rattle.sitefile.specs.Records.{StopsAmong};
     ghost use Rattle.sitefile.specs.TapeParts.{PlacesAt, PlacesWalked, PlacesFound};
 
-    // Walks over so many places. Not by `pass_over`, since a reader is kept on the way.
+    // Walks over so many places, and keeps a reader on the way.
     pub(crate) fn read(reader: &mut Reader<'a>, count: u32) -> Result<PlaceIndex<'a>, Fault>
         requires some { 1 ≤ count }
         requires few { count ≤ 4096 }
@@ -83,9 +83,7 @@ impl<'a> PlaceIndex<'a> {
         let index = number as usize;
         let starts = self.starts.as_slice();
         let mut walk = starts[index / STRIDE];
-        for _i in 0..index % STRIDE {
-            Places.read(&mut walk).ok()?;
-        }
+        walk.pass_over(&Places, (index % STRIDE) as u32).ok()?;
         Places.read(&mut walk).ok()
     }
 }
