@@ -1,5 +1,5 @@
 -- Places found by their numbers. Assumes nothing.
-use Rattle.std.proofs.Common.{◌≡◌, ℕ, zero, suc, ◌+◌, ◌*◌, ◌/◌, ◌%◌, ◌<◌, ◌≤◌, true, ◌&&◌, List, [], ◌∷◌, ◌++◌, length, drop, slice_index_or, Some, Ok, Err, Result, MatchResult, sym, refl, ap, ◌∙◌, ⊎_elim, arith}
+use Rattle.std.proofs.Common.{◌≡◌, ℕ, zero, suc, ◌+◌, ◌*◌, ◌/◌, ◌%◌, ◌<◌, ◌≤◌, true, ◌&&◌, List, [], ◌∷◌, ◌++◌, length, drop, slice_index_or, Some, Ok, Err, Result, MatchResult, sym, refl, ap, ◌∙◌, ⊎_elim, length-append, arith}
 use Rattle.std.specs.Result.{result_ok}
 use Rattle.std.proofs.lemmas.List.{drop_more, drop_all, drop-append-le, get_or_append_left, get_or_at, length_push}
 use Rattle.std.proofs.lemmas.Bool.{cases_lt}
@@ -13,45 +13,55 @@ use Rattle.sitefile.specs.Records.{encode_all, AllAllowed, Reads, Walked, StopsA
 use Rattle.sitefile.specs.Tapes.{no_notes_at, places}
 use Rattle.sitefile.specs.TapeParts.{PlacesAt, PlacesWalked, PlacesFound}
 use Rattle.sitefile.proofs.TapeRecords.{places_laws}
-use Rattle.sitefile.proofs.Runs.{one_more, encode_push, reads_expected}
+use Rattle.sitefile.proofs.Runs.{reads_expected}
 
--- a place more
+-- walks one after another
 
--- what was found stays found when a place more is read
-found_more : {i : ℕ} {from mid : Reader} (to : Reader) (p : Place) (w : Walked places i from mid) (k : ℕ) {bytes : List ℕ} → 64 * k ≤ i → ahead mid ≡ places.encode p (ahead to) → bytes ≡ encode_all places (drop (64 * k) w.values) (ahead mid) → bytes ≡ encode_all places (drop (64 * k) (w.values ++ p ∷ [])) (ahead to)
-found_more to p w k low form e =
-    e ∙ ap (encode_all places (drop (64 * k) w.values)) form
-    ∙ encode_push places (drop (64 * k) w.values) p (ahead to)
-    ∙ ap (λ l. encode_all places l (ahead to)) (sym (drop-append-le (64 * k) w.values (p ∷ []) (omega (arith, w.counted))))
+all_join : (before other xs ys : List Place) → AllAllowed places before xs → AllAllowed places other ys → AllAllowed places before (xs ++ ys)
+all_join before other [] [] a b = tt
+all_join before other [] (y ∷ ys) a b = (b.0, all_join (before ++ y ∷ []) (other ++ y ∷ []) [] ys tt b.1)
+all_join before other (x ∷ xs) ys a b = (a.0, all_join (before ++ x ∷ []) other xs ys a.1 b)
 
-pub noted_more : {i : ℕ} {from mid to : Reader} {starts : List Reader} {p : Place} (n : PlacesWalked i from mid starts) → (i % 64 ≡ 0 → ⊥) → Reads places mid to (Ok p) → PlacesWalked (i + 1) from to starts
-unfolding one_more
-noted_more {i} {to = to} {p = p} n off r =
-    let one = r.read n.walk.values in
-    let noted = n.noted in
+encode_join : (xs ys : List Place) (rest : List ℕ) → encode_all places xs (encode_all places ys rest) ≡ encode_all places (xs ++ ys) rest
+encode_join [] ys rest = refl
+encode_join (x ∷ xs) ys rest = ap (places.encode x) (encode_join xs ys rest)
+
+unfoldable further : {i j : ℕ} {from mid to : Reader} → Walked places i from mid → Walked places j mid to → Walked places (i + j) from to
+further {to = to} w v = record {
+  values = w.values ++ v.values;
+  counted = length-append w.values v.values ∙ (λ k. w.counted k + v.counted k);
+  read = record {
+    form = w.read.form ∙ ap (encode_all places w.values) v.read.form ∙ encode_join w.values v.values (ahead to);
+    all_allowed = all_join [] [] w.values v.values w.read.all_allowed v.read.all_allowed;
+  };
+  same_size = v.same_size ∙ w.same_size;
+}
+
+-- a fault on a later walk
+pub stops_further : {i j count : ℕ} {from mid : Reader} {f : Fault} → Walked places i from mid → i + j ≤ count → StopsAmong places j mid f → StopsAmong places count from f
+stops_further {i} w few s =
+    let fewer = s.few in
+    record { done = i + s.done; mid = s.mid; few = omega arith; walk = further w s.walk; fault = λ next. s.fault next }
+
+-- a walk over at most 64 places more, from a reader that is noted
+pub noted_block : (b : ℕ) {m : ℕ} {from mid to : Reader} {starts : List Reader} → PlacesWalked (64 * b) from mid starts → 0 < m → m ≤ 64 → Walked places m mid to → PlacesWalked (64 * b + m) from to (starts ++ mid ∷ [])
+unfolding further
+noted_block b {m} {from} {mid} {to} {starts} n some few v =
+    let noted : length starts ≡ b = (let was = n.noted in omega arith) in
+    let w = n.walk in
+    let all : (k : ℕ) → k ≤ b → encode_all places (drop (64 * k) w.values) (ahead mid) ≡ encode_all places (drop (64 * k) (w.values ++ v.values)) (ahead to) = λ k low.
+        ap (encode_all places (drop (64 * k) w.values)) v.read.form
+        ∙ encode_join (drop (64 * k) w.values) v.values (ahead to)
+        ∙ ap (λ l. encode_all places l (ahead to)) (sym (drop-append-le (64 * k) w.values v.values (omega (arith, w.counted)))) in
     record {
-      walk = one_more places n.walk r;
-      noted = omega arith;
-      found = λ k d h. let below : 64 * k < i = omega arith in found_more to p n.walk k (omega arith) one.1 (n.found k d below);
-    }
-
-pub noted_here : {i : ℕ} {from mid to : Reader} {starts : List Reader} {p : Place} (n : PlacesWalked i from mid starts) → i % 64 ≡ 0 → Reads places mid to (Ok p) → PlacesWalked (i + 1) from to (starts ++ mid ∷ [])
-unfolding one_more
-noted_here {i} {from} {mid} {to} {starts} {p} n on r =
-    let one = r.read n.walk.values in
-    let noted = n.noted in
-    record {
-      walk = one_more places n.walk r;
+      walk = further w v;
       noted = omega (arith, length_push starts mid);
       found = λ k d h. ⊎_elim
-          (λ (before : k < length starts).
-          let below : 64 * k < i = omega arith in
-          found_more to p n.walk k (omega arith) one.1 (ap ahead (get_or_append_left starts (mid ∷ []) d k before) ∙ n.found k d below))
-          (λ (last : length starts ≤ k).
-          let all : 64 * k ≡ i = omega arith in
-          let none : drop (64 * k) n.walk.values ≡ [] = drop_all (64 * k) n.walk.values (omega (arith, n.walk.counted)) in
-          found_more to p n.walk k (omega arith) one.1 (ap ahead (get_or_at starts mid [] d k (omega arith)) ∙ sym (ap (λ l. encode_all places l (ahead mid)) none)))
-          (cases_lt k (length starts));
+          (λ (before : k < b). ap ahead (get_or_append_left starts (mid ∷ []) d k (omega arith)) ∙ n.found k d (omega arith) ∙ all k (omega arith))
+          (λ (last : b ≤ k).
+          let none : drop (64 * k) w.values ≡ [] = drop_all (64 * k) w.values (omega (arith, w.counted)) in
+          ap ahead (get_or_at starts mid [] d k (omega arith)) ∙ sym (ap (λ l. encode_all places l (ahead mid)) none) ∙ all k (omega arith))
+          (cases_lt k b);
     }
 
 pub places_found : {from to : Reader} (index : PlaceIndex) → PlacesWalked index.count from to index.starts.items → PlacesFound index.count from to index

@@ -40,7 +40,7 @@ impl Layout for Places {
 }
 
 // Every so many places one is noted, so that any of them is found without walking over all.
-const STRIDE: usize = 64;
+const STRIDE: u32 = 64;
 
 // The places of a tape as its file has them: how many, and a reader at every 64th.
 #[derive(Drop)]
@@ -66,11 +66,9 @@ impl<'a> PlaceIndex<'a> {
         ensures { MatchResult result (λ index. PlacesFound count reader.old reader.new index) (λ f. StopsAmong places count reader.old f) }
     {
         let mut starts = ArrayVec::new();
-        for i in 0..count as usize {
-            if i % STRIDE == 0 {
-                starts.push(*reader);
-            }
-            Places.read(reader)?;
+        for block in 0..count.div_ceil(STRIDE) {
+            starts.push(*reader);
+            reader.pass_over(&Places, (count - block * STRIDE).min(STRIDE))?;
         }
         Ok(PlaceIndex { count, starts })
     }
@@ -80,10 +78,10 @@ impl<'a> PlaceIndex<'a> {
         requires { number < self.now.count }
         ensures { (ps : List Place) → PlacesAt ps self.now → result ≡ Some (place_at ps number) }
     {
-        let index = number as usize;
+        let index = number as u32;
         let starts = self.starts.as_slice();
-        let mut walk = starts[index / STRIDE];
-        walk.pass_over(&Places, (index % STRIDE) as u32).ok()?;
+        let mut walk = starts[(index / STRIDE) as usize];
+        walk.pass_over(&Places, index % STRIDE).ok()?;
         Places.read(&mut walk).ok()
     }
 }
