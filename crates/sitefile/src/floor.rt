@@ -28,7 +28,7 @@ impl Layout for Cells {
         if time == 0 {
             return Ok(Cell::Closed);
         }
-        if time < free || LONGEST_SEGMENT < time {
+        if !(free..=LONGEST_SEGMENT).contains(&time) {
             return Err(Cause::OutOfRange.at(at));
         }
         Ok(Cell::Open(time))
