@@ -50,9 +50,9 @@ noted_block b {m} {from} {mid} {to} {starts} n some few v =
     let noted : length starts ≡ b = (let was = n.noted in omega arith) in
     let w = n.walk in
     let all : (k : ℕ) → k ≤ b → encode_all places (drop (64 * k) w.values) (ahead mid) ≡ encode_all places (drop (64 * k) (w.values ++ v.values)) (ahead to) = λ k low.
-        ap (encode_all places (drop (64 * k) w.values)) v.read.form
-        ∙ encode_join (drop (64 * k) w.values) v.values (ahead to)
-        ∙ ap (λ l. encode_all places l (ahead to)) (sym (drop-append-le (64 * k) w.values v.values (omega (arith, w.counted)))) in
+    ap (encode_all places (drop (64 * k) w.values)) v.read.form
+    ∙ encode_join (drop (64 * k) w.values) v.values (ahead to)
+    ∙ ap (λ l. encode_all places l (ahead to)) (sym (drop-append-le (64 * k) w.values v.values (omega (arith, w.counted)))) in
     record {
       walk = further w v;
       noted = omega (arith, length_push starts mid);
