@@ -43,25 +43,27 @@ stops_further {i} w few s =
     let fewer = s.few in
     record { done = i + s.done; mid = s.mid; few = omega arith; walk = further w s.walk; fault = λ next. s.fault next }
 
--- a walk over at most 64 places more, from a reader that is noted
-pub noted_block : (b : ℕ) {m : ℕ} {from mid to : Reader} {starts : List Reader} → PlacesWalked (64 * b) from mid starts → 0 < m → m ≤ 64 → Walked places m mid to → PlacesWalked (64 * b + m) from to (starts ++ mid ∷ [])
-unfolding further
-noted_block b {m} {from} {mid} {to} {starts} n some few v =
-    let noted : length starts ≡ b = (let was = n.noted in omega arith) in
-    let w = n.walk in
-    let all : (k : ℕ) → k ≤ b → encode_all places (drop (64 * k) w.values) (ahead mid) ≡ encode_all places (drop (64 * k) (w.values ++ v.values)) (ahead to) = λ k low.
+ahead_of_block : (k : ℕ) {i j : ℕ} {from mid to : Reader} (w : Walked places i from mid) (v : Walked places j mid to) → 64 * k ≤ i → encode_all places (drop (64 * k) w.values) (ahead mid) ≡ encode_all places (drop (64 * k) (w.values ++ v.values)) (ahead to)
+ahead_of_block k {to = to} w v low =
     ap (encode_all places (drop (64 * k) w.values)) v.read.form
     ∙ encode_join (drop (64 * k) w.values) v.values (ahead to)
-    ∙ ap (λ l. encode_all places l (ahead to)) (sym (drop-append-le (64 * k) w.values v.values (omega (arith, w.counted)))) in
+    ∙ ap (λ l. encode_all places l (ahead to)) (sym (drop-append-le (64 * k) w.values v.values (omega (arith, w.counted))))
+
+-- a walk over at most 64 places more, from a reader that is noted
+pub noted_block : (first : ℕ) {m : ℕ} {from mid to : Reader} {starts : List Reader} → first % 64 ≡ 0 → PlacesWalked first from mid starts → 0 < m → m ≤ 64 → Walked places m mid to → PlacesWalked (first + m) from to (starts ++ mid ∷ [])
+unfolding further
+noted_block first {m} {from} {mid} {to} {starts} on n some few v =
+    let noted = n.noted in
+    let w = n.walk in
     record {
       walk = further w v;
       noted = omega (arith, length_push starts mid);
       found = λ k d h. ⊎_elim
-          (λ (before : k < b). ap ahead (get_or_append_left starts (mid ∷ []) d k (omega arith)) ∙ n.found k d (omega arith) ∙ all k (omega arith))
-          (λ (last : b ≤ k).
+          (λ (before : k < length starts). ap ahead (get_or_append_left starts (mid ∷ []) d k before) ∙ n.found k d (omega arith) ∙ ahead_of_block k w v (omega arith))
+          (λ (last : length starts ≤ k).
           let none : drop (64 * k) w.values ≡ [] = drop_all (64 * k) w.values (omega (arith, w.counted)) in
-          ap ahead (get_or_at starts mid [] d k (omega arith)) ∙ sym (ap (λ l. encode_all places l (ahead mid)) none) ∙ all k (omega arith))
-          (cases_lt k b);
+          ap ahead (get_or_at starts mid [] d k (omega arith)) ∙ sym (ap (λ l. encode_all places l (ahead mid)) none) ∙ ahead_of_block k w v (omega arith))
+          (cases_lt k (length starts));
     }
 
 pub places_found : {from to : Reader} (index : PlaceIndex) → PlacesWalked index.count from to index.starts.items → PlacesFound index.count from to index

@@ -66,9 +66,9 @@ impl<'a> PlaceIndex<'a> {
         ensures { MatchResult result (λ index. PlacesFound count reader.old reader.new index) (λ f. StopsAmong places count reader.old f) }
     {
         let mut starts = ArrayVec::new();
-        for block in 0..count.div_ceil(STRIDE) {
+        for first in (0..count).step_by(STRIDE as usize) {
             starts.push(*reader);
-            reader.pass_over(&Places, (count - block * STRIDE).min(STRIDE))?;
+            reader.pass_over(&Places, (count - first).min(STRIDE))?;
         }
         Ok(PlaceIndex { count, starts })
     }
