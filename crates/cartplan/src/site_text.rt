@@ -1,4 +1,5 @@
 // A site as text: a line for its head, then a line a row, or a line a place and a line a lane.
+// The tables are whole, and cut here by the head's counts: to cut them before, what `load` promises would have to be carried through a `Vec`.
 use std::fmt;
 use tables::{Cell, FloorHead, Lane, Place, TapeHead};
 

@@ -112,7 +112,7 @@ impl<'a> Grid<'a> {
         }
     }
 
-    // Writes a cell, where there is one with this number.
+    // Writes a cell, where there is one with this number. By index: after a write by `get_mut` the ghost fields stay unproved.
     pub fn set(&mut self, number: u16, cell: Cell) -> bool
         requires { is_cell self.old.free cell ≡ true }
         ensures answer { result ≡ nat_lt number (self.old.rows * self.old.columns) }

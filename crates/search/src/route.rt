@@ -39,7 +39,7 @@ fn write_places<C: Cost>(sheet: &[Entry<C>], target: u16, list: &mut [u16], coun
 }
 
 // Writes the places that the links lead through from the start to the target, if the target has a distance.
-// Returns how many they are.
+// Returns how many they are: 0 where it has none, a true count, since nothing is written then.
 pub fn tell_route<C: Cost>(sheet: &[Entry<C>], start: u16, target: u16, list: &mut [u16]) -> u16
     requires few { length sheet.now ≤ 4096 }
     requires place { target < length sheet.now }

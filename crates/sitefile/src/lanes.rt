@@ -34,17 +34,6 @@ impl Reader<'_> {
             _ => Ok(LaneState::Open(self.cost()?)),
         }
     }
-
-    // The number of one of `count` places.
-    fn place_number(&mut self, count: u32) -> Result<u16, Fault>
-        requires some { 1 ≤ count }
-        requires few { count ≤ 4096 }
-        ensures size { size self.new ≡ size self.old }
-        ensures read { MatchResult result (λ n. FieldRead (λ p. nat_lt p count) (ahead self.old) n (ahead self.new)) (λ f. FieldFault (size self.old) (λ p. nat_lt p count) (ahead self.old) f) }
-    {
-        let n = self.ranged(0, count - 1)?;
-        Ok(n as u16)
-    }
 }
 
 // The lanes between so many places, by their numbers alone.
@@ -55,15 +44,25 @@ pub(crate) struct Lanes {
     ghost few: { places ≤ 4096 },
 }
 
+impl Lanes {
+    // The number of one of the places.
+    fn place(&self, reader: &mut Reader<'_>) -> Result<u16, Fault>
+        ensures size { size reader.new ≡ size reader.old }
+        ensures read { MatchResult result (λ n. FieldRead (λ p. nat_lt p self.now.places) (ahead reader.old) n (ahead reader.new)) (λ f. FieldFault (size reader.old) (λ p. nat_lt p self.now.places) (ahead reader.old) f) }
+    {
+        let n = reader.ranged(0, self.places - 1)?;
+        Ok(n as u16)
+    }
+}
+
 impl Layout for Lanes {
     type Item = Lane;
 
     ghost records = { λ layout. lane_numbers layout.places };
 
     fn read(&self, reader: &mut Reader<'_>) -> Result<Lane, Fault> {
-        let count = self.places;
-        let from = reader.place_number(count)?;
-        let to = reader.place_number(count)?;
+        let from = self.place(reader)?;
+        let to = self.place(reader)?;
         let floor = reader.cost()?;
         let state = reader.state()?;
         Ok(Lane::new(from, to, floor, state))

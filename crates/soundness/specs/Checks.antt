@@ -7,7 +7,7 @@ use Rattle.site.specs.declared.Way.{Way as WayOut}
 use Rattle.sheet.specs.declared.Entry.{Entry}
 use Rattle.sheet.specs.Sheets.{estimate_of}
 
--- an answer tells whether P holds
+-- An answer tells whether P holds. Not `IsTrue answer ↔ P`: of the question put to each place in turn, a proof found no such clause.
 abbrev pub Tells : Bool → Type 0 → Type 0
 Tells true P = P
 Tells false P = P → ⊥

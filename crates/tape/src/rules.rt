@@ -58,7 +58,7 @@ fn is_lane_sound(places: &[Place], lane: Lane) -> bool
         && is_lane_state(lane.floor, lane.state)
 }
 
-// The place that the lanes so far left last, and how many of them left it.
+// The place that the lanes so far left last, and how many of them left it. The reader's run of lanes has the place's coordinates too.
 #[derive(Clone, Copy)]
 struct Run {
     from: u16,

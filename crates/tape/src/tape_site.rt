@@ -26,6 +26,7 @@ impl Site for Tape<'_> {
         self.lanes.len() as u16
     }
 
+    // The same two looks as in `source`, at other notes: a function for both would take three numbers and give one.
     fn way(&self, place: u16, index: u16) -> Option<Way> {
         let here = self.places.get(place as usize)?;
         if here.ways <= index {
