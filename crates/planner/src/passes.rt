@@ -7,7 +7,8 @@ use cost::Length;
 use sheet::Entry;
 use site::Site;
 
-// Makes each estimate anew, of the hint to the target and of the estimate as it was.
+// Makes each estimate anew, of the hint to the target and of the estimate as it was. That the sheet has a record for each place is asked
+// here, in `soundness` and in `search`: site and sheet are lent apart, so no type of theirs could keep it.
 pub fn renew<S: Site, F: Fn(S::Cost, Length<S::Cost>) -> Length<S::Cost>>(
     site: &S,
     target: u16,
