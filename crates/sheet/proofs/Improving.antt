@@ -9,7 +9,7 @@ use Rattle.queue.specs.declared.Queue.{Queue}
 use Rattle.queue.specs.Queues.{Ordered, Stale}
 use Rattle.queue.proofs.Keys.{Falls, stale}
 use Rattle.sheet.specs.declared.Entry.{Entry}
-use Rattle.sheet.specs.Sheets.{blank, Keyed, by, ranks_by}
+use Rattle.sheet.specs.Sheets.{blank, Keyed, by, ranks_by_key}
 
 module _ {C : Type 0} (sheet : List (Entry C)) (p : ℕ) (e : Entry C) where
   pub put_others : (x : ℕ) → (x ≡ p → ⊥) → get_or (set sheet p e) x blank ≡ get_or sheet x blank
@@ -46,4 +46,4 @@ module _ {C : Type 0} (reads : Entry C → Type 0) (sheet : List (Entry C)) (p :
             (at_most_trans laws first second).holds
 
     pub improved_stale : (q : Queue) → Ordered (Keyed reads sheet) (by K key sheet) q → Stale (Keyed reads (set sheet p e)) (by K key (set sheet p e)) q p
-    improved_stale q = stale (ranks_by laws key sheet) falls (Keyed reads sheet) (Keyed reads (set sheet p e)) q (λ x _. still_keyed x)
+    improved_stale q = stale (ranks_by_key laws key sheet) falls (Keyed reads sheet) (Keyed reads (set sheet p e)) q (λ x _. still_keyed x)

@@ -82,14 +82,16 @@ module _ {C : Type 0} (K : Kind C) (sheet : List (Entry C)) where
   abbrev pub Summable : ℕ → Type 0
   Summable = Keyed (HasSum K) sheet
 
+-- places compared by any length that is kept for each
+pub ranks_by : {C : Type 0} {K : Kind C} → Laws K → (key : ℕ → Length C) → Ranks (λ a b. length_le K (key a) (key b))
+ranks_by {K = K} laws key = record {
+  total = λ a b h. let p : AtMost K (key b) (key a) = at_most_of_not laws h in p.holds;
+  chain = λ a b c h k. let p : AtMost K (key a) (key b) = record { holds = h } in let q : AtMost K (key b) (key c) = record { holds = k } in (at_most_trans laws p q).holds;
+}
+
 -- places compared by any key of their entries
-pub ranks_by : {C : Type 0} {K : Kind C} → Laws K → (key : Entry C → Length C) (sheet : List (Entry C)) → Ranks (by K key sheet)
-ranks_by {K = K} laws key sheet =
-    let at : ℕ → Length _ = λ p. key (slice_index_or sheet p blank) in
-    record {
-      total = λ a b h. let p : AtMost K (at b) (at a) = at_most_of_not laws h in p.holds;
-      chain = λ a b c h k. let p : AtMost K (at a) (at b) = record { holds = h } in let q : AtMost K (at b) (at c) = record { holds = k } in (at_most_trans laws p q).holds;
-    }
+pub ranks_by_key : {C : Type 0} {K : Kind C} → Laws K → (key : Entry C → Length C) (sheet : List (Entry C)) → Ranks (by K key sheet)
+ranks_by_key laws key sheet = ranks_by laws (λ p. key (slice_index_or sheet p blank))
 
 -- the entry with a distance by way of another place
 abbrev pub reached : {C : Type 0} → Entry C → Length C → ℕ → Entry C

@@ -3,7 +3,7 @@ ghost use Rattle.std.specs.Prelude.{◌≡◌};
 ghost use Rattle.cost.specs.Costs.{Kind};
 ghost use Rattle.cost.specs.declared.lengths.Length.{Length};
 ghost use Rattle.sheet.specs.declared.Entry.{Entry};
-ghost use Rattle.sheet.specs.Sheets.{Keyed, by, HasEstimate, estimate_key, HasSum, sum_key, ranks_by};
+ghost use Rattle.sheet.specs.Sheets.{Keyed, by, HasEstimate, estimate_key, HasSum, sum_key, ranks_by_key};
 
 use crate::Entry;
 use cost::{Cost, Length};
@@ -51,7 +51,7 @@ impl Key for Sum {
 // Places by a key, the least first.
 #[derive(Drop)]
 pub struct By<'a, K, C> {
-    sheet: &'a [Entry<C>],
+    pub sheet: &'a [Entry<C>],
     key: PhantomData<K>,
 }
 
@@ -77,5 +77,5 @@ impl<'a, K: Key, C: Cost> Priority for By<'a, K, C> {
         first.is_at_most(second)
     }
 
-    ghost ranks = { λ s. ranks_by C.lawful (K.key C C.Cost.kind) s.sheet.now };
+    ghost ranks = { λ s. ranks_by_key C.lawful (K.key C C.Cost.kind) s.sheet.now };
 }
