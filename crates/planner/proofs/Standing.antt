@@ -1,5 +1,8 @@
 -- What holds of a planner and its sheet while a call is granted. Assumes nothing.
-use Rattle.std.proofs.Common.{◌≡◌, ℕ, ◌<◌, Bool, true, false, cond, List, take, Some, Option, Ok, Err, Result, is_ok, sym, ap, ◌∙◌, subst, true≢false, arith}
+use Rattle.std.proofs.Common.{◌≡◌, ℕ, ◌<◌, Bool, true, false, cond, List, take, Some, None, Option, Ok, Err, Result, is_ok, sym, ap, ◌∙◌, subst, true≢false, arith}
+use Rattle.std.specs.Option.{is_some}
+use Rattle.std.proofs.lemmas.Map.Entries.{option_filter}
+use Rattle.std.proofs.lemmas.Option.{cond_some}
 use Rattle.std.proofs.lemmas.List.{get_or-take}
 use Rattle.std.proofs.lemmas.Bool.Decides.{nat_tests}
 use Rattle.cost.specs.declared.lengths.Length.TheVariants.{Finite}
@@ -15,9 +18,13 @@ use Rattle.planner.specs.Trips.{has_places}
 use Rattle.planner.specs.Calls.{AsksTrip}
 use Rattle.sheet.specs.Sheets.{blank, estimate_of}
 
--- the target of a trip is a place
-pub target_named : (n : ℕ) (trip : Option Trip) (t : Trip) → has_places n trip ≡ true → trip ≡ Some t → t.target < n
-target_named n trip t named is = let h : has_places n (Some t) ≡ true = subst (λ x. has_places n x ≡ true) is named in grind (arith, nat_tests, h)
+-- start and target of the trip of a planner that is opened are places
+pub trip_named : (n : ℕ) (trip : Option Trip) (t : Trip) → option_filter (has_places n) trip ≡ Some t → (t.start < n) × (t.target < n)
+trip_named n (Some x) t is =
+    let h = cond_some (has_places n x) x t is in
+    let named : has_places n t ≡ true = subst (λ y. has_places n y ≡ true) h.1 h.0 in
+    grind (arith, nat_tests, named)
+trip_named n None t is = absurd (true≢false (sym (ap is_some is)))
 
 -- what an answer tells that was yes
 pub told : {P : Type 0} (answer : Bool) (refusal : Refusal) → ◌≡◌ {A = Result (Unit {0}) Refusal} (Ok tt) (cond answer (Ok tt) (Err refusal)) → Tells answer P → P

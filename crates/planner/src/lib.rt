@@ -1,12 +1,13 @@
 // The planner over any site.
 #![tactic(auto)]
 
-ghost use Rattle.std.specs.Prelude.{◌≡◌, true, None, Ok, Err, cond, length};
-ghost use Rattle.planner.specs.Trips.{has_places};
+ghost use Rattle.std.specs.Prelude.{◌≡◌, None, Ok, Err, cond, length};
+ghost use Rattle.planner.specs.Trips.{trip_of};
+ghost use Rattle.planner.specs.Calls.{OpenAnswer, Opens, MoveAnswer, Moves, RetargetAnswer, Retargets, SearchAnswer, Searches};
 
 mod passes;
 
-use cost::Length;
+use cost::{Cost, Length};
 use passes::renew;
 use refusals::Refusal;
 use search::{Found, search};
@@ -25,11 +26,10 @@ struct Trip {
 
 // A planner holds its site; sheet, queue and list are lent at each call.
 #[derive(Drop)]
-pub struct Planner<S: Site> {
+pub struct Planner<S> {
     site: S,
     // None until it is opened.
     trip: Option<Trip>,
-    ghost places: { has_places (S.Site.meaning site).places trip ≡ true },
 }
 
 // Puts a question: where it is answered no, the refusal is the answer of the call.
@@ -40,13 +40,21 @@ fn ask(answer: bool, refusal: Refusal) -> Result<(), Refusal>
 }
 
 impl<S: Site> Planner<S> {
-    ghost use Rattle.planner.specs.Calls.{OpenAnswer, Opens, MoveAnswer, Moves, RetargetAnswer, Retargets, SearchAnswer, Searches};
-
     // A planner that is not opened yet.
     pub fn new(site: S) -> Planner<S>
         ensures { (result.site ≡ site) × (result.trip ≡ None) }
     {
         Planner { site, trip: None }
+    }
+
+    // The trip of a planner that is opened. That its start and target are places is asked here: a type that kept it would ask of every
+    // mention of a planner that what it holds is a site.
+    fn opened(&self) -> Option<Trip>
+        ensures { result ≡ trip_of (S.Site.meaning self.now.site) self.now }
+    {
+        let places = self.site.places();
+        self.trip
+            .filter(|trip| trip.start < places && trip.target < places)
     }
 
     // Takes the start and the target, and fills each estimate with the hint.
@@ -56,8 +64,8 @@ impl<S: Site> Planner<S> {
         target: u16,
         sheet: &mut [Entry<S::Cost>],
     ) -> Result<(), Refusal>
-        ensures answer { OpenAnswer self.old start target (length sheet.old) result }
-        ensures after { Opens self.old start target result self.new sheet.old sheet.new }
+        ensures answer { OpenAnswer S.Cost.Cost.kind (S.Site.meaning self.old.site) self.old start target (length sheet.old) result }
+        ensures after { Opens S.Cost.Cost.kind (S.Site.meaning self.old.site) self.old start target result self.new sheet.old sheet.new }
     {
         let places = self.site.places();
         ask(start < places, Refusal::UnknownPlace)?;
@@ -74,10 +82,10 @@ impl<S: Site> Planner<S> {
 
     // Takes another start.
     pub fn move_to(&mut self, start: u16) -> Result<(), Refusal>
-        ensures answer { MoveAnswer self.old start result }
-        ensures after { Moves self.old start result self.new }
+        ensures answer { MoveAnswer S.Cost.Cost.kind (S.Site.meaning self.old.site) self.old start result }
+        ensures after { Moves S.Cost.Cost.kind (S.Site.meaning self.old.site) self.old start result self.new }
     {
-        let trip = self.trip.ok_or(Refusal::NotOpened)?;
+        let trip = self.opened().ok_or(Refusal::NotOpened)?;
         ask(start < self.site.places(), Refusal::UnknownPlace)?;
         self.trip = Some(Trip { start, ..trip });
         Ok(())
@@ -85,10 +93,10 @@ impl<S: Site> Planner<S> {
 
     // Takes another target, and turns the estimates to it: each becomes the greater of the hint and of itself less the estimate there.
     pub fn retarget(&mut self, target: u16, sheet: &mut [Entry<S::Cost>]) -> Result<(), Refusal>
-        ensures answer { RetargetAnswer self.old target sheet.old result }
-        ensures after { Retargets self.old target result self.new sheet.old sheet.new }
+        ensures answer { RetargetAnswer S.Cost.Cost.kind (S.Site.meaning self.old.site) self.old target sheet.old result }
+        ensures after { Retargets S.Cost.Cost.kind (S.Site.meaning self.old.site) self.old target result self.new sheet.old sheet.new }
     {
-        let trip = self.trip.ok_or(Refusal::NotOpened)?;
+        let trip = self.opened().ok_or(Refusal::NotOpened)?;
         let places = self.site.places();
         ask(target < places, Refusal::UnknownPlace)?;
         ask(places as usize <= sheet.len(), Refusal::ShortMemory)?;
@@ -111,10 +119,10 @@ impl<S: Site> Planner<S> {
         queue: &mut [u16],
         list: &mut [u16],
     ) -> Result<Found<S::Cost>, Refusal>
-        ensures answer { SearchAnswer self.now sheet.old queue.old list.old result }
-        ensures after { Searches self.now result sheet.old sheet.new queue.old queue.new list.old list.new }
+        ensures answer { SearchAnswer S.Cost.Cost.kind (S.Site.meaning self.now.site) self.now sheet.old queue.old list.old result }
+        ensures after { Searches S.Cost.Cost.kind (S.Site.meaning self.now.site) self.now result sheet.old sheet.new queue.old queue.new list.old list.new }
     {
-        let trip = self.trip.ok_or(Refusal::NotOpened)?;
+        let trip = self.opened().ok_or(Refusal::NotOpened)?;
         let places = self.site.places() as usize;
         ask(places <= sheet.len(), Refusal::ShortMemory)?;
         ask(places <= queue.len(), Refusal::ShortMemory)?;
