@@ -17,9 +17,9 @@ pub use rules::verdict;
 
 // The entries of the tables that count. A tape that stands on faulty tables has none, and is then one place with no segment.
 #[derive(Drop)]
-pub struct Tape<'a> {
-    places: &'a mut [Place],
-    lanes: &'a mut [Lane],
+pub struct Tape<'p, 'l> {
+    places: &'p mut [Place],
+    lanes: &'l mut [Lane],
     ghost sound: { SoundTables places.now lanes.now },
     ghost noted: { NotedTables places.now lanes.now },
 }

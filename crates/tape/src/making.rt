@@ -7,9 +7,9 @@ use crate::rules::verdict;
 use tables::{Lane, Place, TapeHead, Verdict};
 use tape_notes::build;
 
-impl<'a> Tape<'a> {
+impl<'p, 'l> Tape<'p, 'l> {
     // The tape over a head and its tables, which are looked through once. Where they break the rules, it is one place with no segment.
-    pub fn new(head: TapeHead, places: &'a mut [Place], lanes: &'a mut [Lane]) -> Tape<'a>
+    pub fn new(head: TapeHead, places: &'p mut [Place], lanes: &'l mut [Lane]) -> Tape<'p, 'l>
         ensures { SiteOver head places.old lanes.old (tape_meaning result) }
     {
         match verdict(head, places, lanes) {

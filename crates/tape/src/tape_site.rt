@@ -7,7 +7,7 @@ use cost::{CrossingsFirst, Length};
 use site::{Site, Way, is_allowed};
 use tables::LaneState;
 
-impl Site for Tape<'_> {
+impl Site for Tape<'_, '_> {
     type Cost = CrossingsFirst;
 
     ghost meaning = { tape_meaning };
