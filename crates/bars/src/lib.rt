@@ -54,7 +54,12 @@ impl<S: Site> Bars<S> {
     pub fn is_barred(&self, segment: u16) -> bool
         ensures { result ≡ among (barred self.now) segment }
     {
-        self.barred.contains(&segment)
+        // Mostly none or one is barred, and `contains` is made for long rows.
+        match self.barred.as_slice() {
+            [] => false,
+            [only] => *only == segment,
+            many => many.contains(&segment),
+        }
     }
 }
 
